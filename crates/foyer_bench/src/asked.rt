@@ -8,7 +8,7 @@ use std::alloc::Global;
 use std::sync::Arc;
 use std::sync::atomic::{AtomicBool, Ordering};
 
-/// A mark for each key that was asked for. Keys share marks where their hashes lie together.
+/// A mark for each key that was asked for. Two keys share a mark if their hashes have the same remainder modulo the number of marks.
 #[derive(Drop)]
 pub struct AskedKeys {
     marks: Vec<AtomicBool>,
@@ -16,7 +16,7 @@ pub struct AskedKeys {
 }
 
 impl AskedKeys {
-    /// No key was asked for, of so many, or of one where these are none. Memory.
+    /// Makes the marks for this many keys, at least one mark. No key is marked as asked for. Errors: `Memory`.
     pub fn new(alloc: Global, keys: u64) -> Result<AskedKeys> {
         let mut marks = Vec::new(alloc);
         marks.push(AtomicBool::new(false))?;

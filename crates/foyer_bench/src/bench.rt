@@ -23,7 +23,7 @@ use std::rt::{Clock, Files};
 use std::sync::Wait;
 use std::thread::Threads;
 
-/// Printed where the arguments are bad.
+/// The text that is printed if the arguments are bad.
 pub const USAGE: &str =
     "usage: foyerbench DIR CAPACITY BLOCK THREADS VALUE_BYTES SECONDS [NAME=VALUE..]\n";
 
@@ -100,9 +100,9 @@ where
     }
 }
 
-/// Runs the words `DIR CAPACITY BLOCK THREADS VALUE_BYTES SECONDS [NAME=VALUE..]`: so many threads call one store for so long, and
-/// what they counted is printed. Gives the exit status: 0, or 1 where a call was refused or answered wrongly, the store couldn't be
-/// built or the output failed, or 2 for bad words. `--version` alone prints the version.
+/// Runs a bench by the words `DIR CAPACITY BLOCK THREADS VALUE_BYTES SECONDS [NAME=VALUE..]`. The given number of threads call one store
+/// for the given time. Then the call prints what they counted. It gives the exit status: 0, or 2 for bad words. The status is 1 if a
+/// call was refused or answered wrongly, the store couldn't be built, or the output failed. `--version` alone prints the version.
 pub fn bench<L, T, B, W, E>(
     rt: T,
     alloc: Global,

@@ -89,7 +89,7 @@ pub struct Work<'a> {
     pub zipf: &'a Zipf,
     /// What a value is filled with.
     pub filler: &'a [u8],
-    /// Where a get that is a hit leaves its mark, if anywhere.
+    /// The marks in which a get that hits marks its key, if there are marks.
     pub asked: Option<&'a AskedKeys>,
 }
 

@@ -78,8 +78,8 @@ fn print_counts<W: Write>(output: &mut W, report: &Report) -> io::Result<()> {
     write!(output, "puts={puts} gets={gets}\n")
 }
 
-/// Prints what was counted: the opening's time, rates, latencies and steps, or counts alone where the plan has a number of calls.
-/// Then whether each call was answered well, which is the answer.
+/// Prints what was counted. If the plan has a number of calls, it prints the counts alone. Else it prints the opening's time, rates,
+/// latencies and steps. Then it prints whether each call was answered well, and answers that too.
 pub fn print<W: Write>(output: &mut W, plan: &Plan, report: &Report) -> io::Result<bool> {
     if plan.calls.is_some() {
         print_counts(output, report)?;

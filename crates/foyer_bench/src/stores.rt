@@ -35,7 +35,7 @@ use std::time::Instant;
 // Into how many shards the keeper is divided.
 const KEEPER_SHARDS: usize = 64;
 
-// Where gets leave marks, where records are to be written again.
+// Makes the marks that gets leave, if the plan has records written again.
 fn asked_of(alloc: Global, plan: &Plan) -> Result<Option<Arc<AskedKeys, Global>>> {
     if plan.reinsert == 0 {
         return Ok(None);
@@ -44,7 +44,7 @@ fn asked_of(alloc: Global, plan: &Plan) -> Result<Option<Arc<AskedKeys, Global>>
     Ok(Some(Arc::new(alloc, asked)?))
 }
 
-// What has records written again that have a mark, where there are marks.
+// Makes the filter by which marked records are written again, if there are marks.
 fn filter_of(
     alloc: Global,
     asked: &Option<Arc<AskedKeys, Global>>,

@@ -19,7 +19,7 @@ use std::rt::Clock;
 use std::sync::Wait;
 use std::time::Instant;
 
-// Puts a value, and waits where too much is queued.
+// Puts a value, and waits if too much is queued.
 fn fill_one<S: Drop, N: Engine<S, u64, Vec<u8>, NoProperties>>(
     rt: &impl Wait,
     alloc: Global,
@@ -83,7 +83,7 @@ pub struct Called {
     is_timed: bool,
 }
 
-// What the callers counted together. Io where a clock failed.
+// Adds up what the callers counted. Errors: `Io` if a clock failed.
 fn report_of(
     alloc: Global,
     opening_nanos: u64,
@@ -118,7 +118,7 @@ pub struct BenchTask<'a> {
     pub zipf: &'a Zipf,
     /// What a value is filled with.
     pub filler: &'a [u8],
-    /// Where a get that is a hit leaves its mark, if anywhere.
+    /// The marks in which a get that hits marks its key, if there are marks.
     pub asked: Option<&'a AskedKeys>,
     /// When the opening began.
     pub begin: Instant,

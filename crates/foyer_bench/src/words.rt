@@ -8,7 +8,7 @@ use foyer_bench_stats::settings::Refusal;
 use foyer_cli::options::Options;
 use std::alloc::Allocator;
 
-/// Reads the words. Where the first three are no sizes, no refusal is named.
+/// Reads the words. If the first three can't be read as a directory and two sizes, the error names no refusal.
 pub fn read_words<'a, B: Allocator>(
     words: &'a [String<B>],
 ) -> Result<(Options<'a>, Plan), Option<Refusal>>

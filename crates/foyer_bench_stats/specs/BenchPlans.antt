@@ -28,9 +28,9 @@ unfoldable pub AreSettings : Plan → List (List ℕ) → Plan → Type 0
 AreSettings plan [] after = after ≡ plan
 AreSettings plan (word ∷ words) after = (s : Setting) × (number : ℕ) × IsSetting word s number × AreSettings (set_to s number plan) words after
 
--- where nothing more is said: 100,000 keys at a skew of 0.99, 90 of a hundred calls are gets, nothing is put before, loads read
--- through one engine, one flusher writes, eight workers read the blocks at the opening, there is one core, no put looks again, a miss
--- puts nothing, and nothing is written again
+-- The plan if no setting is given. There are 100,000 keys at a skew of 0.99. Of a hundred calls 90 are gets. Nothing is put before the
+-- calls. Loads read through one engine, one flusher writes, and eight workers read the blocks at the opening. There is one core. No put
+-- looks again, a miss puts nothing, and nothing is written again.
 abbrev pub default_plan : ℕ → ℕ → ℕ → Plan
 default_plan threads value_bytes seconds = record {
   threads = threads;

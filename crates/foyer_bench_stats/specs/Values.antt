@@ -2,7 +2,7 @@
 use Rattle.std.specs.Prelude.{◌≡◌, ℕ, List, length, take, min}
 use Rattle.std.specs.Int.{to_le_bytes, w64}
 
--- what the value of a key begins with, where it is as long as this
+-- the bytes that the value of a key begins with, as far as the value is long enough
 abbrev pub start_of : ℕ → List ℕ → List ℕ
 start_of key value = take (min (length value) 8) (to_le_bytes w64 key)
 

@@ -52,7 +52,7 @@ impl Histogram {
         self.greatest = self.greatest.max(value);
     }
 
-    /// Takes in what another noted. False where both together are more than 2^64 - 1 numbers: then it is as it was.
+    /// Takes in what another histogram noted. Answers false if both together have more than 2^64 - 1 numbers. Then nothing changes.
     pub fn merge(&mut self, other: &Histogram) -> bool
         ensures fits { IsTrue result ↔ (sum self.old.counts + sum other.now.counts < 2 ^ 64) }
         ensures merged { MatchBool result (NotesBoth self.old other.now self.new) (self.new ≡ self.old) }
@@ -82,15 +82,15 @@ impl Histogram {
         self.total == 0
     }
 
-    /// The greatest number that was noted; 0 where nothing was.
+    /// Gives the greatest number that was noted, or 0 if nothing was noted.
     pub fn greatest(&self) -> u64
         ensures { result ≡ self.now.greatest }
     {
         self.greatest
     }
 
-    /// The end of the least bucket up to which so many thousandths of all numbers lie, or the greatest number where it is less.
-    /// None where nothing was noted.
+    /// Finds the least bucket up to which the given thousandths of all numbers lie. Gives the bucket's end, or the greatest number if that is
+    /// less. Gives None if nothing was noted.
     pub fn percentile(&self, thousandths: u64) -> Option<u64>
         requires { (0 < thousandths) × (thousandths ≤ 1000) }
         ensures { MatchOption result (sum self.now.counts ≡ 0) (IsPercentile self.now thousandths) }

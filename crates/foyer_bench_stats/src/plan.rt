@@ -36,9 +36,9 @@ pub struct Plan {
     pub cores: u64,
     /// How often a put that finds too much queued looks again.
     pub patience: u64,
-    /// 1 where a get that misses puts its key, else 0.
+    /// This is 1 if a get that misses puts its key, else 0.
     pub through: u64,
-    /// 1 where what was asked for is written again at a reclaim, else 0.
+    /// This is 1 if records that were asked for are written again at a reclaim, else 0.
     pub reinsert: u64,
 }
 
@@ -65,9 +65,10 @@ impl Plan {
         self
     }
 
-    /// Reads the words. Of settings of one name the last counts; where none is there, 100,000 keys are asked of at a skew of 0.99,
-    /// 90 of a hundred calls are gets, the seed is 1, nothing is put before, loads read through one engine, one flusher writes, eight
-    /// workers read the blocks at the opening, there is one core, no put looks again, a miss puts nothing, and nothing is written again.
+    /// Reads the words. If several settings have one name, the last one counts. Without settings, 100,000 keys are asked for at a skew of
+    /// 0.99. Of a hundred calls 90 are gets, and the seed is 1. Nothing is put before the calls. Loads read through one engine, one flusher
+    /// writes, and eight workers read the blocks at the opening. There is one core. No put looks again, a miss puts nothing, and nothing is
+    /// written again.
     pub fn parse<A: Allocator>(words: &[String<A>]) -> Result<Plan, Refusal>
         ensures read { MatchResult result (ArePlanWords (map string_bytes words.now)) (AreRefused (map string_bytes words.now)) }
         ensures bounds { IfOk result HasBounds }

@@ -1,4 +1,4 @@
--- Removal: a hash goes only where it has that very address, or that very mark.
+-- Removal: a hash is removed only if it has that very address, or that very mark.
 use Rattle.std.specs.Prelude.{ℕ, Bool, false, not, ◌&&◌, ◌==◌, Option, Some, None, List}
 use Rattle.std.specs.List.{list_any}
 use Rattle.std.specs.FinMap as map

@@ -24,13 +24,13 @@ Gathered n es sources seats from end =
     (k : ℕ) (d : HashedEntryAddress) → from ≤ k → k < end → source_at sources k ≡ None
     → Contains seats (seat ((slice_index_or es k d).hash % n) (slice_index_or es k d).hash)
 
--- each seat from `from` up to `end` is in the shard of that number, where its hash has its place or is among the new ones
+-- each seat from `from` up to `end` is in the shard of that number, and its hash has its place in that shard or is among the new ones
 abbrev pub RunTaken : ℕ → Shard → List Seat → List ℕ → ℕ → ℕ → Type 0
 RunTaken number shard seats news from end =
     (k : ℕ) (d : Seat) → from ≤ k → k < end
     → ((slice_index_or seats k d).shard ≡ number) × (Has shard (slice_index_or seats k d).hash ⊎ Contains news (slice_index_or seats k d).hash)
 
--- each seat from `from` up to `end` is in the shard of that number, where its hash has its place
+-- each seat from `from` up to `end` is in the shard of that number, and its hash has its place in that shard
 abbrev pub RunSeated : ℕ → Shard → List Seat → ℕ → ℕ → Type 0
 RunSeated number shard seats from end =
     (k : ℕ) (d : Seat) → from ≤ k → k < end

@@ -60,7 +60,7 @@ found shards hash =
 abbrev pub room : List Shard → ℕ → ℕ
 room shards i = unwrap_or (option_map spare_of (slice_get shards i)) 0
 
--- the room of each shard is as before, but for one place in the shard of the hash
+-- the room of each shard is as before, except that the shard of the hash may have lost one place
 abbrev pub TakesOnePlace : List Shard → List Shard → ℕ → Type 0
 TakesOnePlace old new hash =
     (i : ℕ) → room old i ≤ room new i + (if hash % length old == i then 1 else 0)
@@ -94,7 +94,7 @@ Placed shards i hash = IsSomeAnd (slice_get shards i) (λ shard. Has shard hash)
 abbrev pub AddsNoPlace : List Shard → List Shard → Type 0
 AddsNoPlace old new = (i hash : ℕ) → Placed new i hash → Placed old i hash
 
--- no other place is new than that of a hash in its own shard, and that only where `done`
+-- the only place that may be new is that of the hash in its own shard, and it is new only if `done` holds
 abbrev pub AddsPlaceOf : List Shard → List Shard → ℕ → Type 0 → Type 0
 AddsPlaceOf old new hash done = (i other : ℕ) → Placed new i other → Placed old i other ⊎ ((other ≡ hash) × (hash % length old ≡ i) × done)
 
@@ -111,7 +111,7 @@ IsOwnPending n i es sources hash = (hash % n ≡ i) × IsPending es sources 0 ha
 abbrev pub AddsPlacesOf : List Shard → List Shard → List HashedEntryAddress → List (Option EntryAddress) → Type 0
 AddsPlacesOf old new es sources = (i hash : ℕ) → Placed new i hash → Placed old i hash ⊎ IsOwnPending (length old) i es sources hash
 
--- each place is in the shard of its hash, and its hash has something, but for those still to come of a batch
+-- each place is in the shard of its hash, and each hash that has a place has something, except hashes still to come of a batch
 abbrev pub AreFilledBut : List Shard → List HashedEntryAddress → List (Option EntryAddress) → ℕ → Type 0
 AreFilledBut shards es sources from =
     (i hash : ℕ) → Placed shards i hash → (hash % length shards ≡ i) × (IsSome (finite.get (map_of shards) hash) ⊎ IsPending es sources from hash)

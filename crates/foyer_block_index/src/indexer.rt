@@ -24,7 +24,7 @@ use std::marker::Model;
 /// The number of a put or a delete, in the order in which they were accepted.
 pub type Sequence = u64;
 
-/// Where a record stands: `len` bytes from byte `offset` of a block in its filling `filling`.
+/// A record's place: `len` bytes from byte `offset` of a block in its filling `filling`.
 #[derive(Clone, Copy, Debug, PartialEq, Eq)]
 pub struct EntryAddress {
     /// The block that has the record.
@@ -44,7 +44,7 @@ pub struct EntryAddress {
 pub struct HashedEntryAddress {
     /// The hash of its key.
     pub hash: u64,
-    /// Where its record is.
+    /// The address of its record.
     pub address: EntryAddress,
 }
 
@@ -108,8 +108,8 @@ impl<A: Allocator + Clone> Indexer<A> {
         })
     }
 
-    /// Inserts a mark, and answers the address that doesn't stay. Memory is the only refusal, and comes only where the
-    /// hash has nothing yet and its shard has no room.
+    /// Inserts a mark, and answers the address that doesn't stay. The only error is `Memory`. It comes only if the hash has nothing yet and
+    /// its shard has no room.
     pub fn insert_tombstone(
         &mut self,
         hash: u64,
@@ -148,9 +148,8 @@ impl<A: Allocator + Clone> Indexer<A> {
         }
     }
 
-    /// Inserts addresses in order, and answers those that don't stay, in that order and in the
-    /// batch's memory. Memory is the only refusal, and comes only where a hash of the batch has nothing yet and a shard
-    /// lacks room.
+    /// Inserts addresses in order, and answers those that don't stay. The answers are in that order and in the batch's memory. The only error
+    /// is `Memory`. It comes only if a hash of the batch has nothing yet and a shard lacks room.
     pub fn insert_batch(
         &mut self,
         batch: Vec<HashedEntryAddress, A>,
@@ -211,9 +210,9 @@ impl<A: Allocator + Clone> Indexer<A> {
         Ok(())
     }
 
-    /// Inserts addresses in order, answers none of them, and gives the batch back empty, with its memory. Memory is the only
-    /// refusal, and comes only where a hash of the batch has nothing yet and a shard lacks room. A large batch goes in faster
-    /// than by `insert_batch`, since it is ordered by shard first. That takes up to twice its bytes; if they are refused, it
+    /// Inserts addresses in order and gives the batch back empty, with its memory. It answers none of the addresses. The only error is
+    /// `Memory`. It comes only if a hash of the batch has nothing yet and a shard lacks room. A large batch goes in faster than by
+    /// `insert_batch`, because it is ordered by shard first. The ordering takes up to twice the batch's bytes. If they are refused, the batch
     /// goes in unordered.
     pub fn insert_all(
         &mut self,
@@ -233,9 +232,9 @@ impl<A: Allocator + Clone> Indexer<A> {
         Ok(batch)
     }
 
-    /// The records of a block enter the index, in order, and it says how many are puts. One without a source is inserted, and
-    /// is a put; one with a source replaces that address where its hash has just it, and is a put then. Memory is the only
-    /// refusal, and comes only where a hash of a record without a source has nothing yet and a shard lacks room.
+    /// Enters the records of a block into the index, in order, and gives how many of them are puts. A record without a source is inserted,
+    /// and is a put. A record with a source replaces that address if its hash has just that address, and is a put then. The only error is
+    /// `Memory`. It comes only if a hash of a record without a source has nothing yet and a shard lacks room.
     pub fn commit_batch(
         &mut self,
         batch: &[HashedEntryAddress],
@@ -268,8 +267,7 @@ impl<A: Allocator + Clone> Indexer<A> {
         Ok(shards::commit_all(&mut self.shards, batch, sources))
     }
 
-    /// Moves a hash from one address to another of the same sequence, where it has the first one.
-    /// Says whether it did.
+    /// Moves a hash from one address to another of the same sequence, if the hash has the first address. Says whether it moved the hash.
     pub fn replace(&mut self, hash: u64, old: &EntryAddress, new: EntryAddress) -> bool
         requires { old.now.sequence ≡ new.sequence }
         ensures answer { IsTrue result
@@ -286,7 +284,7 @@ impl<A: Allocator + Clone> Indexer<A> {
         )
     }
 
-    /// Removes a hash where it has that very address. Says whether it did.
+    /// Removes a hash if it has that very address. Says whether it did.
     pub fn remove(&mut self, hash: u64, address: &EntryAddress) -> bool
         ensures answer { IsTrue result
             ↔ (map.get self.old.slots hash ≡ Some (Index.Address address.now)) }

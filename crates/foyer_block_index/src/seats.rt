@@ -132,8 +132,8 @@ fn seat_run<A: Allocator>(
     end
 }
 
-// Places for the hashes of seats, each in its own shard, where there is room. Seats of one shard that stand together get theirs
-// together.
+// Makes places for the hashes of seats, each in its own shard. Each shard has room for its seats. If seats of one shard stand together,
+// their places are made together.
 fn seat_gathered<A: Allocator>(
     shards: &mut Vec<Shard<A>, A>,
     news: &mut Vec<u64, A>,
@@ -169,8 +169,8 @@ fn order<A: Allocator>(seats: &mut Vec<Seat, A>)
     }
 }
 
-// Places for the hashes of a batch's records without a source, where each shard has room for the batch. Where there are fewer
-// sources than records, those behind have none. Only the shards of these hashes are looked at.
+// Makes places for the hashes of a batch's records that have no source. Each shard has room for the batch. If there are fewer sources
+// than records, the records behind have none. The call looks only at the shards of these hashes.
 pub(crate) fn seat_all<A: Allocator>(
     shards: &mut Vec<Shard<A>, A>,
     seats: &mut Vec<Seat, A>,

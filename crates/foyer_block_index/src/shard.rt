@@ -183,7 +183,7 @@ impl<A: Allocator> Shard<A> {
         merge_places(&mut self.entries, len, news);
     }
 
-    // The place of a hash, made where it has none.
+    // Gives the place of a hash, and makes it if the hash has none.
     fn seat(&mut self, hash: u64) -> Result<usize>
         ensures place { IfOk result (λ place. slice_get (hashes self.new.entries) place ≡ Some hash) }
         ensures same { HoldsSame self.old self.new }
@@ -228,7 +228,7 @@ impl<A: Allocator> Shard<A> {
         Ok(None)
     }
 
-    // Writes over what a hash has where that is `held`, and says whether it did.
+    // Writes over what a hash has if that is `held`, and says whether it did.
     fn exchange(&mut self, hash: u64, held: Index, slot: Slot) -> bool
         ensures answer { IsTrue result ↔ (held_at self.old hash ≡ Some held) }
         ensures changes { OnTrue result (ChangesAt self.old self.new hash (held_by slot)) }
@@ -247,7 +247,7 @@ impl<A: Allocator> Shard<A> {
         }
     }
 
-    /// Writes over what a hash has where that is `old`, and says whether it did.
+    /// Writes over what a hash has if that is `old`, and says whether it did.
     pub(crate) fn replace(&mut self, hash: u64, old: Index, new: Index) -> bool
         ensures answer { IsTrue result ↔ (held_at self.old hash ≡ Some old) }
         ensures replaced { OnTrue result (ChangesAt self.old self.new hash (Some new)) }
@@ -257,7 +257,7 @@ impl<A: Allocator> Shard<A> {
         self.exchange(hash, old, Slot::of(new))
     }
 
-    /// Leaves the place of a hash vacant where it has just that, and says whether it did.
+    /// Leaves the place of a hash vacant if the hash has just `held`, and says whether it did.
     pub(crate) fn vacate(&mut self, hash: u64, held: Index) -> bool
         ensures answer { IsTrue result ↔ (held_at self.old hash ≡ Some held) }
         ensures vacated { OnTrue result (ChangesAt self.old self.new hash None) }

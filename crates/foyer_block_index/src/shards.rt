@@ -71,7 +71,7 @@ pub(crate) fn enter<A: Allocator + Clone>(
     shards[place].enter(hash, next)
 }
 
-// Leaves the place of the hash vacant where it has just that, and says whether it did.
+// Leaves the place of the hash vacant if the hash has just `held`, and says whether it did.
 fn vacate<A: Allocator>(shards: &mut Vec<Shard<A>, A>, hash: u64, held: Index) -> bool
     requires { 0 < length shards.old.items }
     ensures answer { IsTrue result ↔ (map.get (map_of shards.old.items) hash ≡ Some held) }
@@ -97,7 +97,7 @@ fn sweep<A: Allocator>(shards: &mut Vec<Shard<A>, A>, place: usize)
     shards[place].sweep();
 }
 
-// Takes the vacant places of the shard of a hash away where its count isn't 0, which it is then.
+// Takes away the vacant places of the shard of a hash, if the shard's count isn't 0. The count is 0 then.
 fn sweep_counted<A: Allocator>(shards: &mut Vec<Shard<A>, A>, counts: &mut [usize], hash: u64)
     requires some { 0 < length shards.old.items }
     requires counts { length counts.old ≡ length shards.old.items }
@@ -116,7 +116,7 @@ fn sweep_counted<A: Allocator>(shards: &mut Vec<Shard<A>, A>, counts: &mut [usiz
     }
 }
 
-// Removes the hash where it has just that, and says whether it did.
+// Removes the hash if it has just `held`, and says whether it did.
 pub(crate) fn remove<A: Allocator>(shards: &mut Vec<Shard<A>, A>, hash: u64, held: Index) -> bool
     requires { 0 < length shards.old.items }
     ensures answer { IsTrue result ↔ (map.get (map_of shards.old.items) hash ≡ Some held) }
@@ -186,7 +186,7 @@ pub(crate) fn remove_marks<A: Allocator>(
     }
 }
 
-// Writes over what the hash has where that is `old`, and says whether it did.
+// Writes over what the hash has if that is `old`, and says whether it did.
 pub(crate) fn replace<A: Allocator>(
     shards: &mut Vec<Shard<A>, A>,
     hash: u64,
@@ -239,8 +239,8 @@ pub(crate) fn count(counts: &mut [usize], batch: &[HashedEntryAddress])
     }
 }
 
-// Makes room in each shard for the entries of a batch that belong there, as counted. It succeeds where each has it already.
-// Only the shards of these entries are looked at.
+// Makes room in each shard for the entries of a batch that belong there, as counted. It succeeds if each shard has the room already.
+// It looks only at the shards of these entries.
 pub(crate) fn reserve<A: Allocator + Clone>(
     shards: &mut Vec<Shard<A>, A>,
     counts: &[usize],
@@ -364,7 +364,7 @@ fn commit_one<A: Allocator + Clone>(
     }
 }
 
-// Orders a batch by shard; the entries of each hash stand as before. Where memory for that is refused, it stays as it was.
+// Orders a batch by shard. The entries of each hash stand as before. If memory for that is refused, the batch stays as it was.
 pub(crate) fn arrange<A: Allocator>(batch: &mut Vec<HashedEntryAddress, A>, shards: usize)
     requires { 0 < shards }
     ensures moved { IsPermutation batch.old.items batch.new.items }
@@ -391,8 +391,8 @@ pub(crate) fn insert_all<A: Allocator + Clone>(
     }
 }
 
-// The records of a batch enter the index in order, where the hashes of those without a source have their places. How many are
-// puts.
+// Enters the records of a batch into the index in order, and gives how many are puts. The hashes of records without a source have their
+// places already.
 pub(crate) fn commit_all<A: Allocator + Clone>(
     shards: &mut Vec<Shard<A>, A>,
     batch: &[HashedEntryAddress],

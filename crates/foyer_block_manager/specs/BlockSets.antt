@@ -106,7 +106,7 @@ abbrev pub reclaim_count : ℕ → (ℕ → model_state.BlockSet) → ℕ
 reclaim_count zero sets = 0
 reclaim_count (suc n) sets = one_if (is_reclaimed (sets n)) + reclaim_count n sets
 
--- A reclaim may begin where blocks are wanted, a reclaimer is free, a block is evictable, and no destroy cleans.
+-- A reclaim may begin if blocks are wanted, a reclaimer is free, a block is evictable, and no destroy cleans.
 pub record MayReclaim (blocks reclaimers clean_threshold : ℕ) (s : BlockSets) : Type 0 where
   pub wanted : (usable_count s.filling s.clean < clean_threshold) ⊎ (s.waiting ≢ [])
   pub free : reclaim_count blocks s.block_set < reclaimers

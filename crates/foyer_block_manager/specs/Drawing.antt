@@ -1,4 +1,4 @@
--- The block that the generator chooses where no picker picks one.
+-- The block that the generator chooses if no picker picks one.
 use Rattle.std.specs.Prelude.{◌≡◌, ℕ, List, length, Some, slice_get}
 use Rattle.rand_core.specs.Stream.{Stream}
 use Rattle.rand.specs.Uniform.{usize_single}

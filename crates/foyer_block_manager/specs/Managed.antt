@@ -73,7 +73,7 @@ filling_of (Some it) = it.filling
 abbrev pub filling_in : List BlockState → ℕ → ℕ
 filling_in blocks b = filling_of (slice_get blocks b)
 
--- one where it holds
+-- 1 if it holds, else 0
 abbrev pub one_if : Bool → ℕ
 one_if true = 1
 one_if false = 0

@@ -108,6 +108,6 @@ pub record IsWorst (invalid : ℕ → ℕ) (ids : List ℕ) (b : ℕ) : Type 0 w
   pub there : is_id_in b ids ≡ true
   pub most : (c : ℕ) → is_id_in c ids ≡ true → (invalid c < invalid b) ⊎ ((invalid c ≡ invalid b) × (c ≤ b))
 
--- what is picked by invalid bytes is the worst of those that are evictable, and none where none is
+-- what is picked by invalid bytes, if a block is picked, is the worst of the evictable ones
 abbrev pub WorstIsPicked : Type 0
 WorstIsPicked = (invalid : ℕ → ℕ) (ids : List ℕ) (b : ℕ) → worst_of invalid None ids ≡ Some b → IsWorst invalid ids b

@@ -16,7 +16,7 @@ queued_with q b = if not (is_id_in b q.ids) && nat_lt (length q.ids) q.room then
 abbrev pub queued_without : Queued → ℕ → Queued
 queued_without q b = record q { ids = without_id b q.ids }
 
--- the flag of an id, where it has one, says whether it is queued; each id is queued once
+-- if an id has a flag, the flag says whether the id is queued; each id is queued once
 pub record AreFlagged (ids : List ℕ) (flags : List Bool) : Type 0 where
   pub once : AreDistinct ids
   pub flag : (b : ℕ) → b < length flags → slice_get flags b ≡ Some (is_id_in b ids)

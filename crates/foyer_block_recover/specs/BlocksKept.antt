@@ -57,8 +57,8 @@ pub record HoldsKept {A : Type 0} (read : BlocksRead A) (n : ℕ) (keeps : ℕ �
   pub clean : read.clean.items ≡ clean_from 0 n keeps
 
 module _ (s : Sizes) (n : ℕ) (bytes : ℕ → ℕ → ℕ) (surely_has : ℕ → ℕ → ℕ → Type 0) (is_strict : Bool) where
-  -- What the chains of n blocks of these bytes keep; some reads may have failed, of none of which it is sure that the disk
-  -- has it, and where that isn't allowed no chain is cut by one.
+  -- What the chains of n blocks of these bytes keep. Reads may have failed, but no read of a place that the disk surely has. If `is_strict`
+  -- holds, no chain is cut by a failed read.
   pub record AreBlocksRead {A : Type 0} (read : BlocksRead A) : Type 0 where
     pub failed : ℕ → ℕ → Bool
     pub faults : (b p : ℕ) → b < n → failed b p ≡ true → surely_has b p s.index → ⊥

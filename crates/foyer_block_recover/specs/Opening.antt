@@ -20,7 +20,7 @@ abbrev pub sequence_of : Found → ℕ
 sequence_of (Stands b e) = e.sequence
 sequence_of (Marked h s) = s
 
--- the first stays before the other, which comes behind it, only where it is greater
+-- the first of the two, if its sequence is greater; else the other, which comes behind it
 abbrev pub first_or : Found → Option Found → Option Found
 first_or x None = Some x
 first_or x (Some y) = if nat_lt (sequence_of y) (sequence_of x) then Some x else Some y
@@ -69,13 +69,13 @@ abbrev pub clean_from : (from n : ℕ) → (ℕ → List BlobEntryIndex) → Lis
 clean_from b zero keeps = []
 clean_from b (suc n) keeps = if is_empty (keeps b) then b ∷ clean_from (b + 1) n keeps else clean_from (b + 1) n keeps
 
--- what a mode keeps of a block of these bytes, where reads of these places failed
+-- what a mode keeps of a block of these bytes, if the reads of these places failed
 abbrev pub Keeps : Sizes → RecoverMode → (ℕ → ℕ) → (ℕ → Bool) → List BlobEntryIndex → Type 0
 Keeps s recover_mode.None B failed es = es ≡ []
 Keeps s recover_mode.Quiet B failed es = (ls : List BlobEntryIndex) × Lists s B failed ls × (es ≡ kept ls)
 Keeps s recover_mode.Strict B failed es = (ls : List BlobEntryIndex) × Lists s B failed ls × (es ≡ kept ls)
 
--- the chain of a block ends where a read failed
+-- the chain of a block ends at a place whose read failed
 abbrev pub IsCut : Sizes → (ℕ → ℕ) → (ℕ → Bool) → Type 0
 IsCut s B failed = (ls : List BlobEntryIndex) × (q : ℕ) × Chain s B failed 0 ls q × (q + s.index ≤ s.block) × (failed q ≡ true)
 

@@ -44,11 +44,11 @@ abbrev pub AreFaults : Sizes → ℕ → (ℕ → ℕ → ℕ → Type 0) → (�
 AreFaults s n surely_has failed = (b p : ℕ) → b < n → failed b p ≡ true → surely_has b p s.index → ⊥
 
 module _ (s : Sizes) (n : ℕ) (bytes : ℕ → ℕ → ℕ) (surely_has : ℕ → ℕ → ℕ → Type 0) (mode : RecoverMode) (marks : List (ℕ × ℕ)) where
-  -- it is the opening of these bytes, where some reads failed
+  -- it is the opening of these bytes, for some set of failed reads
   abbrev pub IsRecovered : Opened → Type 0
   IsRecovered opened = (failed : ℕ → ℕ → Bool) × AreFaults s n surely_has failed × Opens s n bytes mode failed marks opened
 
-  -- it is refused as the opening of these bytes is, where some reads failed; or for want of memory
+  -- it is refused as the opening of these bytes is, for some set of failed reads; or it is refused because memory is
   abbrev pub IsRefused : Error → Type 0
   IsRefused error.Memory = Unit {0}
   IsRefused error.Recover = (failed : ℕ → ℕ → Bool) × AreFaults s n surely_has failed × IsCutShort s n bytes mode failed

@@ -1,4 +1,4 @@
--- Where what is kept of each block comes from: a listing that a worker read, or the disk itself.
+-- The source of what is kept of each block: a listing that a worker read, or the disk itself.
 use Rattle.std.specs.Prelude.{◌≡◌, ℕ, zero, suc, ◌+◌, ◌<◌, ◌≤◌, ◌==◌, ◌%◌, ◌^◌, ◌&&◌, ◌++◌, if◌then◌else◌, Bool, true, false, List, [], ◌∷◌, Option, Some, None, slice_get}
 use Rattle.foyer_format_layout.specs.Each.{Each}
 use Rattle.foyer_format_layout.specs.Page.{page_up}
@@ -14,7 +14,7 @@ pub record Listing : Type 0 where
   pub kept : List HashedEntryAddress
   pub is_cut : Bool
 
--- its entries are kept of a block of these bytes, where some reads may have failed, none of a place that is sure
+-- its entries are kept of a block of these bytes; some reads may have failed, but none of a place that is sure
 abbrev pub IsListingOf : Sizes → (B : ℕ → ℕ) → (surely : ℕ → Type 0) → Listing → Type 0
 IsListingOf s B surely l = IsKeptOf s B surely l.block [] l.kept l.is_cut
 
@@ -25,7 +25,7 @@ IsWithinBlock s block e =
     × ((e.address).offset + page_up (e.address).len ≤ s.block)
 
 module _ {X : Type 0} (is_known : X → Type 0) (byte_at : X → ℕ → ℕ → ℕ) (surely_has surely_lies : X → ℕ → ℕ → ℕ → Type 0) (faults : X → ℕ) where
-  -- Some disk gave it, between these two of its states: where contracts see its bytes, it lists these.
+  -- Some disk gave it, between these two of the disk's states. If contracts see the disk's bytes, it lists these bytes.
   pub record IsReadFrom (l : Listing) : Type 0 where
     pub before : X
     pub after : X
@@ -53,7 +53,7 @@ listing_in (Some l) = l
 abbrev pub listing_at : Sizes → ℕ → List (Option Listing) → Option Listing
 listing_at s b slots = if_of s b (listing_in (slice_get slots b))
 
--- Bytes B are those of a block: its listing lists them, where these reads failed, or, without a listing, the disk has them.
+-- Bytes B are those of a block. If the block has a listing, it lists them, given that these reads failed. Else the disk has them.
 abbrev pub IsSource : Sizes → ℕ → Option Listing → (B has : ℕ → ℕ) → (failed : ℕ → Bool) → Type 0
 IsSource s b None B has failed = B ≡ has
 IsSource s b (Some l) B has failed = IsKeptBy s B failed b [] l.kept l.is_cut
@@ -95,7 +95,7 @@ IsOwnListing s blocks worker workers l = (l.sizes ≡ s) × (l.block < blocks) �
 abbrev pub block_of : Listing → ℕ
 block_of l = l.block
 
--- Behind the listings that were there stand more, each of one of the worker's blocks; each lists what the disk has there, but for
+-- Behind the listings that were there stand more, each of one of the worker's blocks. Each lists what the disk has there, except for
 -- reads that failed.
 pub record AreListed (s : Sizes) (blocks worker workers : ℕ) (known : Type 0) (bytes : ℕ → ℕ → ℕ) (surely : ℕ → ℕ → ℕ → Type 0) (old new : List Listing) : Type 0 where
   pub more : List Listing

@@ -8,8 +8,8 @@ pub fn marks_forget()
     ensures unseen { MarksForgetUnseen }
 {}
 
-/// Where each listing that came lists its own block of some bytes, whichever came first, a recovery that is given them opens these
-/// bytes: `RecoverRunner::run_with` gives the opening of what was read.
+/// Suppose that each listing that came lists its own block of some bytes, whichever came first. Then a recovery that is given the listings
+/// opens these bytes: `RecoverRunner::run_with` gives the opening of what was read.
 pub fn listings_are_sources()
     ensures { ListingsAreSources }
 {}

@@ -8,7 +8,7 @@ use Rattle.foyer_block_scan.specs.ScanState.{Scan}
 use Rattle.foyer_format_buffer.specs.BlobEntryIndex.{BlobEntryIndex}
 use Rattle.foyer_block_scan.specs.declared.block.scanner.EntryInfo.{EntryInfo}
 
--- where the chain goes on, if there is room for an index
+-- the offset at which the chain goes on, if there is room for an index
 abbrev pub next_blob : Sizes → ℕ → Option ℕ
 next_blob s p = if nat_le (p + s.index) s.block then Some p else None
 
@@ -22,7 +22,7 @@ info_of block filling e = record {
 abbrev pub infos_of : (block filling : ℕ) → List BlobEntryIndex → List EntryInfo
 infos_of block filling es = map (info_of block filling) es
 
--- what an index at offset p, or none, gives: its entries, and where the scan goes on
+-- what an index at offset p, or no index, gives: its entries, and the scan as it goes on
 pub record ScanStep : Type 0 where
   pub listed : Option (List EntryInfo)
   pub scan : Scan

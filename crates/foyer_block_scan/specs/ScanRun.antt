@@ -8,11 +8,11 @@ use Rattle.foyer_block_scan.specs.ScanState.{Scan}
 use Rattle.foyer_block_scan.specs.Walk.{walk, list_of}
 use Rattle.foyer_block_scan.specs.declared.block.scanner.EntryInfo.{EntryInfo}
 
--- what a scan is still going to give, of a block of these bytes where the reads of these offsets fail
+-- what a scan of a block of these bytes is still going to give, if the reads of these offsets fail
 abbrev pub rest_of : (ℕ → ℕ) → (ℕ → Bool) → Scan → List EntryInfo
 rest_of B failed s = infos_of s.block s.filling (walk (suc s.sizes.block) s.sizes B failed s.blob_offset)
 
--- the infos of a step; none where it gives no index
+-- the infos of a step, or none if the step gives no index
 abbrev pub infos_in : Option (List EntryInfo) → List EntryInfo
 infos_in None = []
 infos_in (Some infos) = infos

@@ -1,4 +1,4 @@
--- Where a scan is.
+-- The position of a scan.
 use Rattle.std.specs.Prelude.{ℕ, Option}
 use Rattle.foyer_format_layout.specs.Position.{Sizes}
 

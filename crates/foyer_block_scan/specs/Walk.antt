@@ -8,7 +8,7 @@ use Rattle.foyer_block_scan.specs.IndexBytes.{index_at, IsIndexOf}
 use Rattle.foyer_block_scan.specs.Scan.{next_blob}
 use Rattle.foyer_format_buffer.specs.BlobEntryIndex.{BlobEntryIndex}
 
--- what stands at offset p of a block, where its read came
+-- the index that stands at offset p of a block, if its read came
 abbrev pub index_in : Sizes → (ℕ → ℕ) → (ℕ → Bool) → ℕ → Option (List BlobEntryIndex)
 index_in s B failed p = if failed p then None else index_at s p (read B p s.index)
 

@@ -52,7 +52,7 @@ mark_in d (Some at) j = mark_at (d.byte at.extent.file) (start_of at + 16 * j)
 unfoldable pub ring_on : Disk → List Place → ℕ → Tombstone
 ring_on d ps i = mark_in d (locate ps (i / 256)) (i % 256)
 
--- why a call that makes several accesses was refused, where so many faults had been counted before and after it
+-- why a call that makes several accesses was refused, given the counts of faults before and after the call
 abbrev pub IsLogFault : ℕ → ℕ → Error → Type 0
 IsLogFault old new e = (e ≡ error.OutOfRange) ⊎ ((e ≡ error.Io) × ((old < new) ⊎ (old ≡ 2 ^ 64 - 1)))
 

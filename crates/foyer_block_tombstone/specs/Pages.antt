@@ -2,7 +2,7 @@
 use Rattle.std.specs.Prelude.{ℕ, ◌+◌, ◌-◌, ◌*◌, ◌/◌, ◌≤◌, nat_lt, if◌then◌else◌, List, [], ◌∷◌, map, Option, Some, None}
 use Rattle.foyer_device_partition.specs.Extent.{Extent, place, AreDisjoint}
 
--- a partition: where it lies, and its bytes
+-- a partition: its extent, and its bytes
 pub record Place : Type 0 where
   pub extent : Extent
   pub size : ℕ
@@ -29,7 +29,7 @@ pub record PageAt : Type 0 where
   pub size : ℕ
   pub offset : ℕ
 
--- where the page of a number lies, if it is there
+-- the place of the page of a number, if that page is there
 abbrev pub locate : List Place → ℕ → Option PageAt
 locate [] n = None
 locate (p ∷ ps) n =

@@ -2,8 +2,8 @@
 use Rattle.std.specs.Prelude.{◌≡◌, ◌≢◌, ℕ, zero, suc, ◌+◌, ◌%◌, ◌/◌, ◌<◌, ◌≤◌, ◌==◌, ◌⊎◌, min, if◌then◌else◌, List, [], ◌∷◌, ◌++◌, length, Some, slice_get}
 use Rattle.foyer_block_index.specs.declared.tombstone.Tombstone.{Tombstone}
 
--- marks are put at the numbers from `start` on: each slot has the last mark that was put at a number equal to its own
--- modulo the number of slots, and what it had where none was
+-- Marks are put at the numbers from `start` on. Each slot has the last mark that was put at a number equal to the slot's own modulo the
+-- number of slots. If no mark was put there, the slot has what it had.
 pub record IsPut (slots : ℕ) (old : ℕ → Tombstone) (start : ℕ) (marks : List Tombstone) (new : ℕ → Tombstone) : Type 0 where
   pub last : (k : ℕ) → k < length marks → ((j : ℕ) → k < j → j < length marks → (start + j) % slots ≢ (start + k) % slots)
       → slice_get marks k ≡ Some (new ((start + k) % slots))
@@ -25,7 +25,7 @@ pub record IsNewest (ring : ℕ → Tombstone) (n i : ℕ) : Type 0 where
   pub before : (j : ℕ) → j < n → (ring j).sequence ≤ (ring i).sequence
   pub behind : (j : ℕ) → i < j → j < n → (ring j).sequence < (ring i).sequence
 
--- where a log with these slots goes on
+-- the number at which a log with these slots goes on
 abbrev pub GoesOnAt : (ℕ → Tombstone) → ℕ → ℕ → Type 0
 GoesOnAt ring n slot = (IsEmpty ring n × (slot ≡ 1)) ⊎ ((i : ℕ) × IsNewest ring n i × (slot ≡ i + 1))
 

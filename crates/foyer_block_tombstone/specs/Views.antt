@@ -2,8 +2,8 @@
 use Rattle.std.specs.Prelude.{◌≡◌, ℕ, List, [], length, Option, Some, None}
 use Rattle.foyer_block_tombstone.specs.Pages.{Place}
 
--- its engine, its partitions, the page that is loaded, its bytes, which are none where none is loaded, and how many
--- writes of pages its engine was asked for since it was opened, modulo 2^64
+-- its engine, its partitions, the page that is loaded, and the page's bytes, which are none if no page is loaded; then the number of page
+-- writes that its engine was asked for since it was opened, modulo 2^64
 pub record PageView (E : Type 0) : Type 0 where
   pub engine : E
   pub places : List Place

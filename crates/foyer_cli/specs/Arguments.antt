@@ -34,7 +34,7 @@ pub record GoTogether (o : Options) : Type 0 where
   pub some : 1 ≤ blocks_held o
   pub few : blocks_held o < 2 ^ 32
 
--- the sizes asked for, and all else as where nothing is said
+-- the sizes that were asked for, and the defaults for all else
 pub record AreAsked (o : Options) (s : Settings) : Type 0 where
   pub block_size : s.block_size ≡ page_up o.block_size
   pub blocks : s.blocks ≡ blocks_held o

@@ -36,7 +36,7 @@ fn digit(byte: u8) -> Option<u64>
     }
 }
 
-// The number of four digits. None where one is no digit.
+// Reads the number of four digits. Gives None if one of the bytes is no digit.
 fn four_digits(four: &[u8; 4]) -> Option<u64>
     ensures { MatchOption result
         ((k : ℕ) × (k < 4) × IsNotAsciiDigit (slice_index four.now k)) (AreFour four.now) }
@@ -67,7 +67,7 @@ pub fn number(digits: &[u8]) -> Option<u64>
 }
 
 impl<'a> Command<'a> {
-    /// Reads a line without its end. None where it is no command, or its text isn't UTF-8.
+    /// Reads a line without its end. Gives None if the line is no command, or its text isn't UTF-8.
     pub fn parse(line: &'a [u8]) -> Option<Command<'a>>
         ensures { MatchOption result ((c : Command) → ¬ (IsLine line.entry.now c))
             (IsLine line.entry.now) }

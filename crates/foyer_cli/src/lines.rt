@@ -9,7 +9,7 @@ use std::io::Read;
 // The bytes that the buffer begins with.
 const FIRST_CAPACITY: usize = 64 * 1024;
 
-/// Where a line stands in the buffer, without its end.
+/// The place of a line in the buffer, without the line's end.
 #[derive(Clone, Copy, Debug, PartialEq, Eq)]
 pub struct Line {
     start: usize,
@@ -27,7 +27,7 @@ pub enum Filled {
     TooLong,
 }
 
-/// A reader's lines. A line is lent from the buffer, which grows only where one line is longer than it.
+/// A reader's lines. A line is lent from the buffer, which grows only if one line is longer than the buffer.
 pub struct Lines<R: Read + Drop, A: Allocator> {
     input: R,
     buffer: Vec<u8, A>,
@@ -117,8 +117,8 @@ impl<R: Read + Drop, A: Allocator> Lines<R, A> {
         }
     }
 
-    /// Reads more, again where a read was interrupted; another error of a read is the call's. A buffer that a line fills grows
-    /// first; where it can't, nothing is read, and the line is passed over.
+    /// Reads more, and reads again if a read was interrupted. Another error of a read is the call's error. If a line fills the buffer, the
+    /// buffer grows first. If it can't grow, nothing is read, and the line is passed over.
     pub fn fill(&mut self) -> io::Result<Filled> {
         if self.start > 0 {
             self.move_to_front();

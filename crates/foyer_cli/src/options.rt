@@ -13,7 +13,7 @@ use foyer_format_record::block::buffer::PAGE;
 use std::alloc::Allocator;
 use std::io::Write;
 
-/// Printed where the arguments are bad.
+/// The text that is printed if the arguments are bad.
 pub const USAGE: &str = "usage: foyerdisk DIR CAPACITY BLOCK\n";
 
 /// Printed behind a program's name if its one word is `--version`: the library's version, and the toolchain that proved it.
@@ -22,7 +22,7 @@ pub const VERSION: &str = " 0.1.0, rattle-kit-13b\n";
 /// The directory that stands for memory.
 pub const MEMORY: &str = ":memory:";
 
-/// Of the generator that chooses a block where no picker picks one: each run chooses alike.
+/// The seed of the generator that chooses a block if no picker picks one. With it each run chooses alike.
 pub const GENERATOR_SEED: u64 = 0;
 
 /// `DIR CAPACITY BLOCK`, the numbers in bytes.
@@ -58,8 +58,8 @@ pub fn print_version<W: Write + Drop>(mut output: W, program: &str) -> u8
     }
 }
 
-/// How many blocks of so many bytes a device of so many bytes has room for, beside the pages of its log of deletes where it
-/// has one; none of less than a page.
+/// Gives how many blocks of so many bytes a device of so many bytes has room for. If the device has a log of deletes, the log's pages are
+/// left out. If a block has less than a page, there is room for none.
 pub fn blocks_in(capacity: usize, block_size: usize, tombstone_log: bool) -> usize
     ensures bare { tombstone_log ≡ false → 4096 ≤ block_size → result ≡ capacity / 4096 / (block_size / 4096) }
     ensures logged { tombstone_log ≡ true → 4096 ≤ block_size
@@ -79,7 +79,7 @@ pub fn blocks_in(capacity: usize, block_size: usize, tombstone_log: bool) -> usi
 }
 
 impl<'a> Options<'a> {
-    /// Reads the words. None where there are not three, or the second or third is no number.
+    /// Reads the words. Gives None if there aren't three, or if the second or third is no number.
     pub fn parse<A: Allocator>(words: &'a [String<A>]) -> Option<Options<'a>>
         ensures { MatchOption result ((o : Options) → ¬ AreWords words.now o) (AreWords words.now) }
     {
@@ -100,8 +100,8 @@ impl<'a> Options<'a> {
         self.directory == MEMORY
     }
 
-    /// The sizes that an engine is opened with: the block rounded up to whole pages, and as many blocks as the capacity
-    /// holds. `Config` where they don't go together.
+    /// Gives the sizes that an engine is opened with: the block rounded up to whole pages, and as many blocks as the capacity holds. Errors:
+    /// `Config` if these don't go together.
     pub fn settings(&self) -> Result<Settings>
         ensures sizes { IfOk result (AreAsked self.now) }
         ensures valid { IfOk result AreValid }

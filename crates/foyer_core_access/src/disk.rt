@@ -12,8 +12,8 @@ use foyer_io_disk::disk::Disk;
 use std::alloc::{AllocError, Allocator};
 use std::mem::replace;
 
-/// Does the read that a ticket issues, into the memory of `spare`, which grows where it is too small; what stood in it is
-/// gone. `Err` is a refused allocation; a fault of the disk is the step's result, and leaves the memory in `spare`.
+/// Does the read that a ticket issues, into the memory of `spare`. The memory grows if it is too small, and what stood in it is gone. `Err`
+/// is a refused allocation. A fault of the disk is the step's result, and leaves the memory in `spare`.
 pub fn do_read<A: Allocator, D: Disk>(
     alloc: A,
     disk: &mut D,

@@ -15,7 +15,7 @@ use std::alloc::Allocator;
 /// What a reclaim reads of its block: so many bytes from an offset on.
 #[derive(Clone, Copy, Debug, PartialEq, Eq)]
 pub struct Part {
-    /// Where it begins in the block, in bytes.
+    /// Its first byte in the block.
     pub offset: usize,
     /// Its length in bytes.
     pub len: usize,

@@ -19,7 +19,7 @@ abbrev pub others_of : List ℕ → List ℕ
 others_of [] = []
 others_of (k ∷ ks) = ks
 
--- one right wherever it stands in a list, and all others
+-- one right, as often as it stands in a list; and all the others
 abbrev pub only : ℕ → List ℕ → List ℕ
 only k [] = []
 only k (x ∷ xs) = if x == k then x ∷ only k xs else only k xs

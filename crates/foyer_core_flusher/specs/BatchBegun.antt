@@ -1,4 +1,4 @@
--- The model's step where a batch begins.
+-- The model's step when a batch begins.
 use Rattle.std.specs.Prelude.{◌≡◌, ℕ, List, map, length}
 use Rattle.foyer_block_index.specs.declared.tombstone.Tombstone.{Tombstone}
 use Rattle.foyer_core_model.specs.Position.{BlockLayout}

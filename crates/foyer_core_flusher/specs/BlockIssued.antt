@@ -1,4 +1,4 @@
--- The model's step where the next block of a batch is issued.
+-- The model's step when the next block of a batch is issued.
 use Rattle.std.specs.Prelude.{◌≡◌, ℕ, ◌^◌, ◌<◌, ◌≤◌, false, List, ◌∷◌, map, Option, Some}
 use Rattle.foyer_core_model.specs.Position.{BlockLayout, records_in}
 use Rattle.foyer_core_model.specs.Flush.{writing_of}

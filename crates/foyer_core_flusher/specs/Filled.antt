@@ -27,7 +27,7 @@ pub record HasRoomFor (b : Entries) (n : ℕ) : Type 0 where
   pub room : page_up n ≤ left_of b
   pub greatest : page_up n ≤ b.greatest
 
--- the entries stand where these say, and none takes more than it may
+-- the entries stand as these infos say, and none takes more than it may
 pub record AreShared (greatest : ℕ) (bytes : Section) (infos : List BufferEntryInfo) : Type 0 where
   pub packed : IsPacked 0 infos
   pub within : taken infos ≤ length (bytes_of bytes)

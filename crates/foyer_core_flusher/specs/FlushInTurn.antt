@@ -19,7 +19,7 @@ IsWriting φ = IsSomeAnd φ.batch (λ batch. IsSome batch.writing)
 abbrev pub IsUnlogged : {K V P A : Type 0} → Flusher K V P A → Type 0
 IsUnlogged φ = IsSomeAnd φ.batch (λ batch. batch.logged ≡ None)
 
--- the batch has nothing left to write, and the log has answered, where there is one
+-- the batch has nothing left to write, and the log has answered if there is one
 abbrev pub IsWritten : {K V P A : Type 0} → (has_log : Bool) → Flusher K V P A → Type 0
 IsWritten has_log φ =
     IsSomeAnd φ.batch (λ batch. (batch.writing ≡ None) × (batch.blocks.items ≡ []) × ((has_log ≡ false) ⊎ IsSome batch.logged))

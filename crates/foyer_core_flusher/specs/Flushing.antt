@@ -46,7 +46,7 @@ AreFrom [] [] = Unit {0}
 AreFrom (o ∷ os) (r ∷ rs) = IsFrom o r × AreFrom os rs
 AreFrom os rs = ⊥
 
--- records of these sources, in order, and of these pieces where they have none
+-- records in order, each from its source if it has one, else from the next of these pieces
 abbrev pub AreReceived : {K V P : Type 0} → Meaning K V P → List (Option EntryAddress) → List (model_record.Record Content) → List (Referred K V P) → Type 0
 AreReceived m [] [] ps = ps ≡ []
 AreReceived m (Some over ∷ os) (r ∷ rs) ps = (r.source ≡ model_record.Reread (address_of over)) × AreReceived m os rs ps
@@ -77,7 +77,7 @@ AreWriting s None None = Unit {0}
 AreWriting s (Some w) (Some v) = IsWritingAs s w v
 AreWriting s w v = ⊥
 
--- a batch goes on with the flusher's own block only where there is one
+-- a batch goes on with the flusher's own block only if there is one
 abbrev pub HasOwn : Option ℕ → Type 0
 HasOwn None = ⊥
 HasOwn (Some b) = Unit {0}

@@ -15,7 +15,7 @@ source_in [] k = None
 source_in (o ∷ os) zero = o
 source_in (o ∷ os) (suc k) = source_in os k
 
--- the first sources, so many; none where there are fewer
+-- the first n sources; if there are fewer, the rest are None
 abbrev pub padded : ℕ → List (Option EntryAddress) → List (Option EntryAddress)
 padded zero os = []
 padded (suc n) [] = None ∷ padded n []

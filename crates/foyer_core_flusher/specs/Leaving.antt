@@ -9,7 +9,7 @@ abbrev pub left_by : {K V P A : Type 0} → Option (Batch K V P A) → Option �
 left_by None own = None
 left_by (Some batch) own = if batch.continues_own_block then None else own
 
--- its own, where the batch fails
+-- the flusher's own block, if the batch fails; else none
 abbrev pub left_after : Wrote → Option ℕ → Option ℕ
 left_after wrote.Failed own = own
 left_after other own = None

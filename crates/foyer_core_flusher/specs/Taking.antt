@@ -33,7 +33,7 @@ size_in (model_state.Remove h q invalidated ∷ rest) = size_in rest
 size_in (model_state.Await i ∷ rest) = size_in rest
 size_in (model_state.Reinsert h bytes a ∷ rest) = size_in rest
 
--- a record that was read back is put into the buffer: the index has it where it was read, and it has room
+-- a record that was read back is put into the buffer: the index has it at the address that it was read from, and the buffer has room for it
 pub record IsPutAgain {A : Type 0} (index : IndexMap) (r : Reinsertion A) (b : Entries) : Type 0 where
   pub holds : address_at index r.hash ≡ Some r.address
   pub room : HasRoomFor b (length r.slice.items)
@@ -54,8 +54,8 @@ pub record IsReceivedAs {K V P A : Type 0} (m : Meaning K V P) (s : Settings) (s
   pub keeps : KeepsItsBlocks (st.flushers f) after
   pub size_is : size_in (st.flushers f).queue ≡ size + size_in after.queue
 
--- What a receipt makes of a state of the model. It is refused only where the front takes memory: a piece that has no room
--- is handed back.
+-- What a receipt makes of a state of the model. The receipt is refused only if the front takes memory. A piece that has no room is handed
+-- back.
 abbrev pub TakesFront : {K V P A : Type 0} → Meaning K V P → (s : Settings) → AreValid s → model_state.State Content → ℕ → Result (Taken K V P A) Error → Flusher K V P A → IndexMap → Type 0
 TakesFront m s sound st f (Ok taken.Nothing) new slots = ((st.flushers f).queue ≡ []) × IsFlusherAs m s (seen new) (st.flushers f) × IsIndexedAs s slots st.index
 TakesFront m s sound st f (Ok taken.Other) new slots = IsReceivedAs m s sound st f 0 None new slots

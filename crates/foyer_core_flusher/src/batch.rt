@@ -22,7 +22,7 @@ static ZEROS: [u8; PAGE] = [0; PAGE];
 pub enum WriteBytes<A: Allocator> {
     /// The records of a part.
     Data(IoSlice<A>),
-    /// A page of zeros, where the records of a part end: a scan of the block ends there.
+    /// A page of zeros behind the records of a part. A scan of the block ends there.
     Zeros,
     /// The index of a blob.
     Index(IoSliceMut<A>),

@@ -22,8 +22,7 @@ use std::alloc::Allocator;
 use std::marker::Model;
 use std::mem;
 
-// The pages of a flusher: none yet, those that it writes into, or those that may have several owners, where a batch
-// was refused.
+// The pages of a flusher. It has none yet, or it writes into them. If a batch was refused, the pages may have several owners instead.
 #[derive(Drop)]
 enum State<A: Allocator> {
     Empty,
@@ -101,8 +100,8 @@ fn copy_over<A: Allocator>(pages: &mut IoSliceMut<A>, bytes: &[u8])
     pages.as_mut_slice().copy_from_slice(bytes);
 }
 
-// The pages for one owner: themselves where they have no other, or else a copy. They are handed back where memory for
-// it was refused.
+// Gives the pages for one owner. If they have no other owner, it gives them as they are, else a copy. If memory for the copy is refused,
+// the pages are handed back.
 fn own<A: Allocator + Clone>(
     alloc: &A,
     spare: &mut Option<IoSliceMut<A>>,
@@ -127,7 +126,7 @@ fn own<A: Allocator + Clone>(
     }
 }
 
-// Pages with their entries, to be written into by one owner; they stay as they are where memory was refused.
+// Makes pages with their entries writable by one owner. If memory was refused, the pages stay as they are.
 fn reopen<A: Allocator + Clone>(
     alloc: &A,
     spare: &mut Option<IoSliceMut<A>>,
@@ -183,7 +182,7 @@ fn no_pages<A: Allocator + Clone>(alloc: &A) -> Result<(IoSlice<A>, Vec<BufferEn
     Ok((bytes, Vec::new(alloc.clone()?)))
 }
 
-// One more owner of pages, and a copy of where their entries stand.
+// Makes one more owner of pages, and copies the list of their entries.
 fn share<A: Allocator + Clone>(
     alloc: &A,
     bytes: &IoSlice<A>,
@@ -198,7 +197,7 @@ fn share<A: Allocator + Clone>(
     Ok((whole, copy))
 }
 
-// A buffer's pages as pages that may have several owners. Where memory was refused the buffer stays.
+// Makes a buffer's pages into pages that may have several owners. If memory was refused, the buffer stays.
 fn close<A: Allocator>(alloc: A, buffer: Buffer<A>, greatest: usize) -> State<A>
     requires greatest { buffer.greatest ≡ greatest }
     requires small { greatest < 2 ^ 32 }
@@ -339,8 +338,8 @@ impl<A: Allocator> Filled<A> {
         pages <= self.left() && pages <= self.greatest
     }
 
-    /// Appends a record as it is, which has room; false where it hasn't. Pages are taken for the first record, the spare ones
-    /// if there are some. Memory where an allocation was refused. Another answer than true leaves the records.
+    /// Appends a record as it is. Answers false if the record has no room. For the first record it takes pages, the spare ones if there are
+    /// some. Errors: `Memory` if an allocation was refused. Any answer but true leaves the records as they were.
     pub fn push_slice(
         &mut self,
         alloc: &A,
@@ -396,9 +395,8 @@ impl<A: Allocator> Filled<A> {
         }
     }
 
-    /// Appends the record of a key and a value; false where it doesn't fit or a code fails. Pages are taken for the
-    /// first record, the spare ones if there are some. Memory where an allocation was refused. Another answer than true
-    /// leaves the records.
+    /// Appends the record of a key and a value. Answers false if the record doesn't fit or a code fails. For the first record it takes pages,
+    /// the spare ones if there are some. Errors: `Memory` if an allocation was refused. Any answer but true leaves the records as they were.
     pub fn push<K: Code<A>, V: Code<A>>(
         &mut self,
         alloc: &A,
@@ -446,7 +444,7 @@ impl<A: Allocator> Filled<A> {
         }
     }
 
-    // Its entries in pages that may have several owners; it keeps them. Memory where an allocation was refused.
+    // Gives its entries in pages that may have several owners, and keeps them too. Errors: `Memory` if an allocation was refused.
     fn shared(&mut self, alloc: &A) -> Result<(IoSlice<A>, Vec<BufferEntryInfo, A>)>
     where
         A: Clone,
@@ -463,8 +461,8 @@ impl<A: Allocator> Filled<A> {
         }
     }
 
-    /// Splits its records, from where the context is, and moves the context behind them; it keeps them. Memory where an
-    /// allocation was refused; the context stays then.
+    /// Splits its records, from the context's position on, and moves the context behind them. It keeps the records. Errors: `Memory` if an
+    /// allocation was refused. The context stays then.
     pub fn split(&mut self, alloc: &A, ctx: &mut SplitCtx<A>) -> Result<Batch<A>>
     where
         A: Clone,

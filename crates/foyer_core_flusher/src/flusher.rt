@@ -59,7 +59,7 @@ pub struct Flusher<K, V, P, A: Allocator> {
     pub pieces: Vec<PieceRef<K, V, P, A>, A>,
     /// The waits that were received.
     pub waits: Vec<u64, A>,
-    /// Where the next batch's data go.
+    /// The position at which the next batch's data begin.
     pub context: SplitCtx<A>,
     /// The block that it goes on with.
     pub own: Option<BlockId>,
@@ -204,10 +204,9 @@ impl<K, V, P, A: Allocator + Clone> Flusher<K, V, P, A> {
     ghost use Rattle.foyer_core_flusher.specs.Seen.{seen};
     ghost use Rattle.foyer_core_flusher.specs.Taking.{MovesPiece, TakesFront};
 
-    /// Takes the front of the queue. A piece that has no room, or whose code fails, is handed back, and a mark of its sequence
-    /// enters the index and is kept in its place; a record that was read back is dropped where it has no room, and where the
-    /// index hasn't the very address that it was read from. Memory where an allocation was refused: what it was for stays at
-    /// the front then.
+    /// Takes the front of the queue. A piece that has no room, or whose code fails, is handed back. A mark of its sequence enters the index and
+    /// is kept in the piece's place. A record that was read back is dropped if it has no room. It is also dropped if the index hasn't the very
+    /// address that it was read from. Errors: `Memory` if an allocation was refused. Then what the allocation was for stays at the front.
     pub fn receive(&mut self, alloc: &A, index: &mut Indexer<A>) -> Result<Taken<K, V, P, A>>
     where
         K: Code<A>,
@@ -314,8 +313,8 @@ impl<K, V, P, A: Allocator + Clone> Flusher<K, V, P, A> {
             && (!self.filled.is_empty() || !self.marks.is_empty() || !self.waits.is_empty())
     }
 
-    /// Makes a batch of what was received, from where the splitter is, and gives its marks. Memory where an allocation
-    /// was refused; nothing changes then.
+    /// Makes a batch of what was received, from the splitter's position on, and gives the batch's marks. Errors: `Memory` if an allocation was
+    /// refused. Nothing changes then.
     pub fn begin(&mut self, alloc: &A) -> Result<Vec<Tombstone, A>>
         requires idle { self.old.batch ≡ None }
         ensures refused { OnErr result (seen self.new ≡ seen self.old) }
@@ -355,10 +354,9 @@ impl<K, V, P, A: Allocator + Clone> Flusher<K, V, P, A> {
         }
     }
 
-    /// Issues the batch's next block: the flusher's own, or for one that begins a block the one that it was given while
-    /// it waited, or the one that has been clean longest; the block before is evictable then, and the pickers learn of
-    /// it. Nothing is copied. Memory where an allocation was refused; nothing changes then, but that room may have been
-    /// made.
+    /// Issues the batch's next block. That is the flusher's own block, if the batch goes on with it. Else the flusher begins the block that it
+    /// was given while it waited, or the one that has been clean longest. Then its block before is evictable, and the pickers learn of it.
+    /// Nothing is copied. Errors: `Memory` if an allocation was refused. Nothing changes then, except that room may have been made.
     pub fn next<E: EvictionPicker>(
         &mut self,
         alloc: &A,

@@ -82,7 +82,7 @@ fn source_at<A: Allocator>(
     }
 }
 
-// The first sources, so many; none where there are fewer.
+// Gives the first `count` sources. If there are fewer, the rest are None.
 fn first_sources<A: Allocator>(
     alloc: A,
     sources: &VecDeque<Option<EntryAddress>, A>,
@@ -107,7 +107,7 @@ fn drop_sources<A: Allocator>(sources: &mut VecDeque<Option<EntryAddress>, A>, c
     }
 }
 
-// Where a page of zeros stands behind data of so many bytes at an offset, if a block of this size has room for it.
+// Gives the offset of a page of zeros behind data of so many bytes at an offset, if a block of this size has room for the page.
 fn zeros_behind(block_size: usize, at: usize, len: usize) -> Option<usize>
     ensures { MatchOption result (nat_le (at + len + 4096) block_size ≡ false)
         (λ o. (o ≡ at + len) × (nat_le (at + len + 4096) block_size ≡ true)) }
@@ -209,7 +209,7 @@ pub struct Prepared<A: Allocator> {
 }
 
 impl<K, V, P, A: Allocator + Clone> Batch<K, V, P, A> {
-    /// What the next block is issued with. Memory where an allocation was refused.
+    /// Makes what the next block is issued with. Errors: `Memory` if an allocation was refused.
     pub fn prepare(&self, alloc: &A) -> Result<Prepared<A>>
         requires { self.now.blocks.items ≢ [] }
         ensures ready { IfOk result (λ p. IsReady self.now p.records p.sources p.writes) }

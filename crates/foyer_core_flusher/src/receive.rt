@@ -45,7 +45,7 @@ pub enum Taken<K, V, P, A: Allocator> {
     Nothing,
     /// A mark, a record that was read back, or a wait.
     Other,
-    /// A piece that stood in the queue with this size in bytes, handed back where it doesn't fit.
+    /// A piece that stood in the queue with this size in bytes. It is handed back if it doesn't fit.
     Piece(usize, Option<PieceRef<K, V, P, A>>),
 }
 
@@ -59,7 +59,7 @@ fn holds<A: Allocator + Clone>(index: &Indexer<A>, reinsertion: &Reinsertion<A>)
     }
 }
 
-// Appends a piece's record, with room for the piece in its list; false where it doesn't fit or a code fails.
+// Appends a piece's record, and makes room for the piece in the list of pieces. Answers false if the record doesn't fit or a code fails.
 pub(crate) fn put_piece<K: Code<A>, V: Code<A>, P, A: Allocator + Clone>(
     alloc: &A,
     filled: &mut Filled<A>,
@@ -100,7 +100,8 @@ pub(crate) fn put_piece<K: Code<A>, V: Code<A>, P, A: Allocator + Clone>(
     )
 }
 
-// Appends a record that was read back, with where it was read from, if the index has it there still and it has room.
+// Appends a record that was read back, with the address that it was read from. It does so only if the index still has it there and it has
+// room.
 pub(crate) fn put_reinsertion<A: Allocator + Clone>(
     alloc: &A,
     filled: &mut Filled<A>,

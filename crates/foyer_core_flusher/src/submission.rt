@@ -25,7 +25,7 @@ pub struct TombstoneInfo {
 pub struct Reinsertion<A: Allocator> {
     /// The hash of its key.
     pub hash: u64,
-    /// Where it was read from.
+    /// The address that it was read from.
     pub address: EntryAddress,
     /// Its bytes.
     pub slice: Vec<u8, A>,
@@ -47,7 +47,7 @@ impl<A: Allocator> Reinsertion<A> {
     }
 }
 
-/// The type's name, and where the record was read from.
+/// Prints the type's name, and the address that the record was read from.
 impl<A: Allocator> Debug for Reinsertion<A> {
     fn fmt<W: fmt::Write>(&self, f: &mut Formatter<W>) -> fmt::Result {
         f.debug_struct("Reinsertion")

@@ -41,7 +41,7 @@ page_up_above n = omega arith
 pub holds_page : (size : ℕ) → 0 < size → size % 4096 ≡ 0 → 4096 ≤ size
 holds_page size some whole = omega arith
 
--- the entries of the index that these bytes of a place are, where they are one and each entry fits
+-- the entries that these bytes of a place list, if the bytes are an index and each entry fits
 abbrev pub entries_at : Settings → (place : ℕ) → List ℕ → Option (List IndexEntry)
 entries_at s place b = option_map (map entry_of) (index_at (sizes_in s) place b)
 

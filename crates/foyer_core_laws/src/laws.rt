@@ -49,8 +49,8 @@ pub fn puts_are_queued()
         → PutsAreQueued (rules_of is_key is_value s sound) (layout s) (IsEncoded is_key is_value) }
 {}
 
-/// A piece is ignored or handed back only where it may be; what was received is laid out, issued, and put when its block is
-/// written; a step is handed back only out of turn or for its cause.
+/// A piece is ignored or handed back only if it may be. What was received is laid out, issued, and put when its block is written. A step is
+/// handed back only out of turn or for its cause.
 pub fn steps_keep_their_clauses()
     ensures queue { (is_key is_value : List ℕ → Bool) (s : Settings) (sound : AreValid s)
         → QueueKeeps (rules_of is_key is_value s sound) (layout s) }

@@ -8,21 +8,21 @@ ghost use Rattle.foyer_core_laws.specs.ReachedTorn.{two_flushers, IsReachedTorn}
 ghost use Rattle.foyer_core_settings.specs.Sizes.{AreValid};
 ghost use Rattle.foyer_core_settings.specs.declared.settings.Settings.{Settings};
 
-/// Where a run of a core is stopped at any moment, inside a write too, and the bytes that it left are opened, each address
-/// that the index had is found again, or a newer record of its hash, unless its block was being written.
+/// A run of a core is stopped at any moment, also inside a write, and the bytes that it left are opened. Take an address that the index had
+/// and whose block wasn't being written. The address is found again, or a newer record of its hash is found.
 pub fn restart()
     ensures { (is_key is_value : List ℕ → Bool) (s : Settings) (sound : AreValid s)
         → FindsAgain (rules_of is_key is_value s sound) (layout s) (IsEncoded is_key is_value) }
 {}
 
-/// Where no flush of that run was under way at the stop, each address that the index had is found again.
+/// If no flush of that run was under way at the stop, each address that the index had is found again.
 pub fn restart_idle()
     ensures { (is_key is_value : List ℕ → Bool) (s : Settings) (sound : AreValid s)
         → FindsAll (rules_of is_key is_value s sound) (layout s) (IsEncoded is_key is_value) }
 {}
 
-/// What is found again is what it was: where an opening of those bytes begins a run, and an address is found again, the newest
-/// event of its hash is the put that was newest at the stop.
+/// What is found again is what it was. If an opening of those bytes begins a run, and an address is found again, the newest event of its
+/// hash is the put that was newest at the stop.
 pub fn restart_keeps_newest()
     ensures { (is_key is_value : List ℕ → Bool) (s : Settings) (sound : AreValid s)
         → KeepsNewest (rules_of is_key is_value s sound) (layout s) (IsEncoded is_key is_value) }
@@ -37,10 +37,10 @@ pub fn restart_is_reached()
         → IsReached (rules_of is_key is_value (smallest s) sound) (layout (smallest s)) (IsEncoded is_key is_value) }
 {}
 
-/// They speak of stops inside writes: with two flushers and three small blocks, and any key and value of these codes
-/// whose record fits a page, a run is stopped with both flushers inside writes, one of data and one of an index, while
-/// an address stands in the index whose block neither writes. What it left is opened, and the address is found. Where
-/// that write of an index has come whole, but hasn't ended, the newer record is found that it lists.
+/// They speak of stops inside writes. There are two flushers, three small blocks, and any key and value of these codes whose record fits a
+/// page. A run is stopped with both flushers inside writes, one of data and one of an index. In the index stands an address whose block
+/// neither flusher writes. What the run left is opened, and the address is found. If the write of the index has come whole, but hasn't
+/// ended, the newer record that it lists is found.
 pub fn restart_is_reached_torn()
     ensures sizes { (s : Settings) → AreValid (two_flushers s) }
     ensures run { (is_key is_value : List ℕ → Bool) (s : Settings) (sound : AreValid (two_flushers s)) (key value : List ℕ)

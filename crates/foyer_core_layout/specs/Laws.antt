@@ -22,7 +22,7 @@ use Rattle.foyer_core_layout.specs.Splits.{MayGoOn, IsLaidOut, AreRules, LiesWit
 abbrev pub KeepsAll : Type 0 → Type 0
 KeepsAll C = (rules : Rules C) → AreRules rules → KeepsRecords rules (IsLaidOut (sizes_of rules))
 
--- records that fit into a block can be placed from wherever a batch may begin, if offsets have 32 bits
+-- records that fit into a block can be placed from each position at which a batch may begin, if offsets have 32 bits
 abbrev pub PlacesEach : Type 0 → Type 0
 PlacesEach C = (rules : Rules C) → AreRules rules → rules.block_size ≤ 2 ^ 32 → PlacesAll rules (IsLaidOut (sizes_of rules))
 
@@ -46,8 +46,8 @@ BatchIsLaidOut C A =
     → IsFinished b bytes infos → bytes_of whole ≡ bytes → map kept_of rs ≡ b.entries → s.index ≤ f.at
     → IsCodeLayout s whole infos f batch g → IsLaidAs s (position_of f) (position_of g) rs batch
 
--- A record of 36 bytes and n more fits into the buffer just where the plain machine says that it fits: into the room
--- that is left of the buffer, and into a block.
+-- A record of 36 bytes and n more fits into the buffer exactly if the plain machine says so. That is, it fits into the room that is left of
+-- the buffer, and into a block.
 abbrev pub FitsAgree : Type 0 → Type 0
 FitsAgree C =
     (rules : Rules C) (old : State C) (φ : Flusher C) (b : Entries) (n : ℕ) (bytes : List ℕ)

@@ -26,7 +26,7 @@ module _ {C : Type 0} where
   entries_from at (r ∷ rs) =
       record { hash = r.hash; sequence = r.sequence; offset = at; len = length r.bytes } ∷ entries_from (at + page_up (length r.bytes)) rs
 
-  -- each record with its offset in the block, where the first stands at n
+  -- each record with its offset in the block; the first record stands at n
   abbrev pub laid_from : ℕ → List (Record C) → List (ℕ × Record C)
   laid_from n [] = []
   laid_from n (r ∷ rs) = (n, r) ∷ laid_from (n + page_up (length r.bytes)) rs
@@ -55,8 +55,8 @@ module _ {C : Type 0} where
     pub within : tail_of f + bytes_taken page_up now ≤ s.block
     pub records : p.records ≡ laid_from (tail_of f) now
 
-  -- LaidOut: from a filling of a block on the records are placed into these parts of the block, which leave it filled so
-  -- far, and into these further blocks. Left says the same where the present part takes no more of the batch.
+  -- LaidOut: the records are placed from a filling of a block on. They go into these parts of the block, which leave it filled so far, and
+  -- into these further blocks. Left says the same for a present part that takes no more of the batch.
   mutual
     pub data LaidOut (s : Sizes) : Position → List (Record C) → List (Part C) → Position → List (BlockLayout C) → Type 0 where
       -- the next records make a part
@@ -70,10 +70,10 @@ module _ {C : Type 0} where
     pub data Left (s : Sizes) : Position → List (Record C) → List (Part C) → Position → List (BlockLayout C) → Type 0 where
       -- the batch ends, and the next one goes on in the same blob
       done : {f : Position} → length f.listed < capacity_of s.index → Left s f [] [] f []
-      -- a blob is left where its index is full
+      -- a blob is left if its index is full
       blob : {f e : Position} {rs : List (Record C)} {parts : List (Part C)} {blocks : List (BlockLayout C)}
           → length f.listed ≡ capacity_of s.index → LaidOut s (next_blob s f) rs parts e blocks → Left s f rs parts e blocks
-      -- a block is left where the next record doesn't fit in it
+      -- a block is left if the next record doesn't fit in it
       block : {f : Position} {r : Record C} {rs : List (Record C)} {first : BlockLayout C} {blocks : List (BlockLayout C)}
           → length f.listed < capacity_of s.index → s.block < tail_of f + page_up (length r.bytes)
           → LaidOut s (fresh s) (r ∷ rs) first.parts first.end blocks → Left s f (r ∷ rs) [] f (first ∷ blocks)

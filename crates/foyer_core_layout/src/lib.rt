@@ -10,7 +10,7 @@ pub fn keeps_records<C>()
     ensures { KeepsAll C }
 {}
 
-/// Records that fit into a block can be placed from wherever a batch may begin.
+/// Records that fit into a block can be placed from each position at which a batch may begin.
 pub fn places_all<C>()
     ensures { PlacesEach C }
 {}
@@ -25,7 +25,7 @@ pub fn batch_is_laid_out<C, A: Allocator>()
     ensures { BatchIsLaidOut C A }
 {}
 
-/// A record fits into the buffer just where the model says so.
+/// A record fits into the buffer exactly if the model says so.
 pub fn fits_agree<C>()
     ensures { FitsAgree C }
 {}

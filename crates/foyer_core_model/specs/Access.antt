@@ -129,7 +129,7 @@ clean_covers clean_state o = false
 
 -- a read begins, a write or a clean begins during it, and it ends
 
--- a read begins: where writes are under way
+-- a read begins, and notes where writes are under way
 abbrev pub begun : (ℕ → ℕ → Bool) → ℕ → ReadState → ReadState
 begun covers b ReadIssued = Reading (covers b)
 begun covers b read_state = read_state

@@ -1,4 +1,4 @@
--- What a step in turn does, where it isn't refused: each reply with its condition, and the state that it leaves.
+-- What a step in turn does if it isn't refused: each reply with its condition, and the state that it leaves.
 use Rattle.foyer_core_model.specs.State.{State}
 use Rattle.foyer_core_model.specs.Rules.{Rules, Splitting}
 use Rattle.foyer_core_model.specs.Step.{Step, Enqueue, Delete, Wait, MayContains, LoadBegin, LoadEnd, Receive, FlushBegin, FlushBlock, FlushWrote, LogWrote, FlushEnd, ReclaimBegin, ReclaimRead, ReclaimForget, ReclaimCleaned, ReclaimIdle, DestroyBegin, DestroyClear, DestroyCleaned, Close}

@@ -31,8 +31,8 @@ abbrev pub PiecesAmong : {C : Type 0} → List (ℕ × Record C) → List (Recor
 PiecesAmong {C} ps puts = (p : ℕ × Record C) (c : C) → IsAmong p ps → (p.1).source ≡ Given c → IsAmong p.1 puts
 
 module _ {C : Type 0} (rules : Rules C) (Splits : Splitting C) where
-  -- A piece is ignored only where it is young, dropped only where too much is queued, and handed back only where it
-  -- doesn't fit.
+  -- A piece is ignored only if it is young. It is dropped only if too much is queued. It is handed back only if it doesn't fit, or its code
+  -- fails.
   pub record QueueKeeps : Type 0 where
     pub ignored : (old new : State C) (h n : ℕ) (age : Age) (c d : C) → Follows rules Splits old (Enqueue h n age c) (Ignored d) new → (d ≡ c) × (age ≡ Young)
     pub dropped : (old new : State C) (h n s : ℕ) (age : Age) (c d : C) → Follows rules Splits old (Enqueue h n age c) (Dropped d s) new → (d ≡ c) × IsCrowded rules old
@@ -40,9 +40,8 @@ module _ {C : Type 0} (rules : Rules C) (Splits : Splitting C) where
         → (h : ℕ) × (s : ℕ) × (n : ℕ) × (rest : List (Submission C)) × ((old.flushers f).queue ≡ Piece h s n d ∷ rest)
         × ((bytes : List ℕ) → rules.encode h s d ≡ Some bytes → Fits rules old (old.flushers f) bytes → ⊥)
 
-  -- FlushBegin lays out all that was received since the batch before; FlushBlock issues the writes of a block's parts.
-  -- Where the last write of a block is reported, every piece of it is put and the puts are counted; where it fails,
-  -- nothing is put and the index stays.
+  -- FlushBegin lays out all that was received since the batch before. FlushBlock issues the writes of a block's parts. When the last write of
+  -- a block is reported, every piece of the block is put and the puts are counted. If a write fails, nothing is put and the index stays.
   pub record CommitKeeps : Type 0 where
     pub began : (old new : State C) (f : ℕ) (blocks : List (BlockLayout C)) (marks : List (ℕ × ℕ)) → KeepsRecords rules Splits → Follows rules Splits old (FlushBegin f) (Began blocks marks) new
         → (records_of blocks ≡ (old.flushers f).buffer) × (marks ≡ (old.flushers f).marks)
@@ -55,7 +54,7 @@ module _ {C : Type 0} (rules : Rules C) (Splits : Splitting C) where
     pub failed : (old new : State C) (f : ℕ) (ok : Bool) (H : List (Event C)) → Follows rules Splits old (FlushWrote f ok) Failed new
         → (new.index ≡ old.index) × (events_of old Failed (FlushWrote f ok) H ≡ H)
 
-  -- A reclaim begins only where it may, at an evictable block.
+  -- A reclaim begins only if it may, at an evictable block.
   abbrev pub ReclaimKeeps : Type 0
   ReclaimKeeps = (old new : State C) (b : ℕ) (answers : List (Option ℕ)) (probation : List ℕ) → Follows rules Splits old ReclaimBegin (Picked b answers probation) new
       → MayReclaim rules old × (b < rules.blocks) × (old.place b ≡ Evictable)
@@ -87,7 +86,7 @@ abbrev pub WidthsStay : {C : Type 0} → Rules C → Splitting C → (C → Type
 WidthsStay {C} rules Splits is_value =
     (w : World C) → Demands rules Splits is_value → IsReached rules Splits is_value w → StateHasWidths w.core
 
--- In every world that is reached, the clean list is the clean set: a block is listed just where it is clean, and once.
+-- In every world that is reached, the clean list is the clean set: a block is listed exactly if it is clean, and once.
 pub record ListsClean {C : Type 0} (rules : Rules C) (Splits : Splitting C) (is_value : C → Type 0) : Type 0 where
   pub listed : (w : World C) (b : ℕ) → Demands rules Splits is_value → IsReached rules Splits is_value w
       → b < rules.blocks → w.core.place b ≡ Clean → is_id_in b w.core.clean ≡ true

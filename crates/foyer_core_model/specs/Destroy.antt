@@ -24,7 +24,7 @@ abbrev pub first_fault : Option Kind → Option Kind → Option Kind
 first_fault None fault = fault
 first_fault (Some kind) fault = Some kind
 
--- where the last clean has come the destroy is over
+-- when the last clean has come, the destroy is over
 abbrev pub after_clean : List ℕ → Option Kind → Destroy
 after_clean [] failed = NoDestroy
 after_clean (b ∷ bs) failed = Cleaning (b ∷ bs) failed

@@ -43,7 +43,7 @@ abbrev pub with_puts : {C : Type 0} → List (Record C) → List (Event C) → L
 with_puts [] H = H
 with_puts (r ∷ rs) H = with_puts rs (put_event r r.source H ∷ H)
 
--- the records that are puts where the block that a batch writes is committed
+-- the records that are puts when the block that a batch writes is committed
 abbrev pub puts_in : {C : Type 0} → State C → Option (Writing C) → List (Record C)
 puts_in old None = []
 puts_in old (Some w) = (commit_in old w).puts

@@ -24,7 +24,7 @@ abbrev pub IsUnlogged : {C : Type 0} → Option (Batch C) → Type 0
 IsUnlogged None = ⊥
 IsUnlogged (Some batch) = batch.logged ≡ None
 
--- every block is done, or the batch has failed, and the log has answered, where there is one
+-- every block is done, or the batch has failed; and the log has answered if there is one
 abbrev pub IsWritten : {C : Type 0} → (has_log : Bool) → Option (Batch C) → Type 0
 IsWritten has_log None = ⊥
 IsWritten has_log (Some batch) =

@@ -12,7 +12,7 @@ abbrev pub with_kept : {C : Type 0} → (block : ℕ) → List (Record C) → (�
 with_kept b [] kept = kept
 with_kept b (r ∷ rs) kept = with_kept b rs (put kept r.hash (Some b))
 
--- where the block that is written is committed
+-- what is kept when the block that is written is committed
 abbrev pub kept_in : {C : Type 0} → State C → Option (Writing C) → (ℕ → Option ℕ) → ℕ → Option ℕ
 kept_in old None kept = kept
 kept_in old (Some w) kept = with_kept w.block (commit_in old w).puts kept

@@ -98,8 +98,8 @@ PromisesStay {C} rules Splits is_value =
     → (l : Load C) × ((after_all rules w (Applies (LoadBegin h throttled) (Read t) new ∷ events)).loads w.issued ≡ Some l)
     × (l.ticket ≡ t) × (l.promise ≡ newest h w.history)
 
--- The same of a whole run: where a look-up issued a read, and after whatever came between a load ends with an entry by the
--- bytes of that read, the entry was newest at the look-up.
+-- The same of a whole run. A look-up issued a read, and whatever came between, a load ends with an entry by the bytes of that read. Then
+-- the entry was newest at the look-up.
 abbrev pub AnswersNewest : {C : Type 0} → Rules C → Splitting C → (C → Type 0) → Type 0
 AnswersNewest {C} rules Splits is_value =
     (w : World C) (h : ℕ) (throttled : Bool) (t : Ticket) (looked : State C) (between : List (WorldEvent C)) (result : ReadResult) (c : C) (age : Age) (ended : State C) (l : Load C)
@@ -109,9 +109,9 @@ AnswersNewest {C} rules Splits is_value =
     → (after_all rules w (Applies (LoadBegin h throttled) (Read t) looked ∷ between)).loads w.issued ≡ Some l → l.read_state ≡ ReadDone result
     → newest h w.history ≡ Some (Put h t.address.sequence (Holds c))
 
--- The same of a whole run: where the newest event is the put of a record that isn't broken, neither a reclaim of its block
--- nor a destroy began since, and the caller doesn't throttle, a read is issued, and after whatever comes between the load
--- ends as `IsAnswer` says of that record, unless such a reclaim or a destroy began by then.
+-- The same of a whole run. The newest event is the put of a record that isn't broken, and neither a reclaim of its block nor a destroy
+-- began since. If the caller doesn't throttle, a read is issued. Whatever comes between, the load ends as `IsAnswer` says of that record,
+-- unless such a reclaim or a destroy began by then.
 abbrev pub MissedNewest : {C : Type 0} → Rules C → Splitting C → (C → Type 0) → Type 0
 MissedNewest {C} rules Splits is_value =
     (w : World C) (h : ℕ) (reply : Reply C) (looked : State C) (b s : ℕ) (x : Outcome C)

@@ -27,9 +27,9 @@ abbrev pub writes_in : {C : Type 0} → Rules C → List (Part C) → List Write
 writes_in rules [] = []
 writes_in rules (p ∷ ps) = rules.writes_of p ++ writes_in rules ps
 
--- What goes into one block: its writes fall only where the filling may still be written, and where it may be written
--- afterwards it could before; after them, over any bytes, each record stands at its offset, behind the first index, and
--- no later write falls into its pages.
+-- What goes into one block. Its writes fall only into bytes that may still be written in the filling. The bytes that may be written
+-- afterwards are among these. After the writes, over any bytes, each record stands at its offset, behind the first index. No later write
+-- falls into the record's pages.
 pub record KeepsBlock {C : Type 0} (rules : Rules C) (f : Position) (s : BlockLayout C) : Type 0 where
   pub within : AllWithin (MayWrite rules.index_size f) (writes_in rules s.parts)
   pub shrinks : (o : ℕ) → MayWrite rules.index_size s.end o → MayWrite rules.index_size f o
@@ -62,8 +62,7 @@ abbrev pub AllFitBlock : {C : Type 0} → Rules C → List (Record C) → Type 0
 AllFitBlock rules [] = Unit {0}
 AllFitBlock rules (r ∷ rs) = FitsBlock rules r.bytes × AllFitBlock rules rs
 
--- A position from which a batch may begin: that of an empty block, or where a batch of records that can be listed has left
--- one.
+-- A position from which a batch may begin. It is that of an empty block, or the one that a batch of records that can be listed has left.
 pub data MayBegin {C : Type 0} (rules : Rules C) (Splits : Splitting C) : Position → Type 0 where
   empty_block : MayBegin rules Splits (first_position rules)
   after_batch : {f : Position} {records : List (Record C)} {blocks : List (BlockLayout C)}

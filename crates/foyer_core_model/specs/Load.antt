@@ -26,15 +26,15 @@ module _ {C : Type 0} (rules : Rules C) (old : State C) where
       × (new ≡ record old { stats = accessed a.block })
   Looks h throttled slot reply new = ⊥
 
-  -- What the bytes of a read are as the ticket's record: nothing where its block has begun a new filling. The record
-  -- is the first bytes, as many as the address says.
+  -- What the bytes of a read are as the ticket's record. They are nothing if the ticket's block has begun a new filling. The record is the
+  -- first bytes, as many as the address says.
   abbrev pub judged : Ticket → List ℕ → Outcome C
   judged t bs =
       if t.address.filling == old.filling t.address.block
       then rules.pair_of (take t.address.len bs) t.hash t.address.sequence
       else NoRecord
 
-  -- an entry is old where its block is on probation
+  -- an entry is old if its block is on probation
   abbrev pub age_at : ℕ → Age
   age_at b = if (old.stats b).probation then Old else Young
 

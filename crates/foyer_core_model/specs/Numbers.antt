@@ -5,7 +5,7 @@ use Rattle.std.specs.Prelude.{ℕ, ◌+◌, ◌==◌, nat_le, if◌then◌else�
 abbrev pub put : {A : Type 0} → (ℕ → A) → ℕ → A → ℕ → A
 put m k v q = if q == k then v else m q
 
--- the greatest number of 64 bits: a sequence that is never drawn, and where counts stay
+-- the greatest number of 64 bits: a sequence that is never drawn, and the number at which counts stay
 abbrev pub last_number : ℕ
 last_number = 18446744073709551615
 

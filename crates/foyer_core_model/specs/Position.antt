@@ -31,7 +31,7 @@ abbrev pub records_of : {C : Type 0} → List (BlockLayout C) → List (Record C
 records_of [] = []
 records_of (s ∷ ss) = map (λ p. p.1) (records_in s.parts) ++ records_of ss
 
--- where the last block of a batch ends, if it has one
+-- the position at which the last block of a batch ends, if the batch has one
 abbrev pub last_end : {C : Type 0} → Position → List (BlockLayout C) → Position
 last_end f [] = f
 last_end f (s ∷ ss) = last_end s.end ss

@@ -47,8 +47,8 @@ module _ {C : Type 0} (rules : Rules C) (old : State C) where
       })
   Deletes h reply new = ⊥
 
-  -- A young piece goes back. Where too much is queued another one goes back too, and its hash is deleted; else it draws a
-  -- sequence and is queued at its hash's flusher.
+  -- A young piece goes back. If too much is queued, any other piece goes back too, and its hash is deleted. Else the piece draws a sequence
+  -- and is queued at its hash's flusher.
   abbrev pub Enqueues : ℕ → ℕ → Age → C → Reply C → State C → Type 0
   Enqueues h n age c (Ignored d) new = (d ≡ c) × (old.closed ≡ false) × (age ≡ Young) × (new ≡ old)
   Enqueues h n age c (Dropped d s) new = (d ≡ c) × (age ≡ Young → ⊥) × IsCrowded × Deletes h (Deleted s) new

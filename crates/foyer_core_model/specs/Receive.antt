@@ -45,7 +45,7 @@ module _ {C : Type 0} (rules : Rules C) (old : State C) where
   abbrev pub pushed_to : ℕ → List (Submission C) → Record C → State C
   pushed_to f rest r = turned f (record (flusher f) { queue = rest; buffer = (flusher f).buffer ++ r ∷ [] })
 
-  -- a mark is kept for the batch that is next, and enters the index where nothing newer is
+  -- a mark is kept for the batch that is next, and enters the index if nothing newer is there
   abbrev pub marked_at : ℕ → List (Submission C) → (hash sequence : ℕ) → State C
   marked_at f rest h s =
       record (turned f (record (flusher f) { queue = rest; marks = (flusher f).marks ++ (h, s) ∷ []; invalidated = (flusher f).invalidated ++ invalidated_by rules s (old.index h) })) {

@@ -67,14 +67,14 @@ admitted (true ∷ vs) (p ∷ ps) = p ∷ admitted vs ps
 admitted (false ∷ vs) (p ∷ ps) = admitted vs ps
 admitted vs ps = []
 
--- behind the last record of an index, where the next one may stand
+-- the place behind the last record of an index, at which the next index may stand
 abbrev pub place_behind : (ℕ → ℕ) → (block_size place : ℕ) → List IndexEntry → ℕ
 place_behind page_up block_size place [] = place + block_size
 place_behind page_up block_size place (e ∷ []) = place + e.offset + page_up e.len
 place_behind page_up block_size place (e ∷ f ∷ es) = place_behind page_up block_size place (f ∷ es)
 
 module _ {C : Type 0} (rules : Rules C) (old : State C) where
-  -- A reclaim may begin where blocks are wanted, a reclaimer is free, a block is evictable, and no destroy cleans.
+  -- A reclaim may begin if blocks are wanted, a reclaimer is free, a block is evictable, and no destroy cleans.
   pub record MayReclaim : Type 0 where
     pub wanted : (usable_count old.filling old.clean < rules.clean_threshold) ⊎ (old.waiting ≢ [])
     pub free : running rules.blocks old.reclaims < rules.reclaimers
@@ -110,7 +110,7 @@ module _ {C : Type 0} (rules : Rules C) (old : State C) where
   abbrev pub reclaiming : ℕ → Reclaim → State C
   reclaiming b r = record old { reclaims = put old.reclaims b (Some r) }
 
-  -- the stage behind an index, where the filter gave these verdicts
+  -- the stage behind an index, if the filter gave these verdicts
   abbrev pub stage_behind : ℕ → ℕ → List IndexEntry → List Bool → Stage
   stage_behind b place es verdicts =
       stage_after (admitted verdicts (addresses b (old.filling b) place es)) (place_behind rules.page_up rules.block_size place es)

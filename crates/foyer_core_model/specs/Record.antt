@@ -1,7 +1,7 @@
--- Records, where they stand, and what bytes are as a record.
+-- Records, their addresses, and what bytes are as a record.
 use Rattle.std.specs.Prelude.{ℕ, List}
 
--- where a record stands, and in which filling of its block
+-- the place of a record, and the filling of its block in which it stands
 pub record Address : Type 0 where
   pub block : ℕ
   pub offset : ℕ
@@ -29,8 +29,7 @@ pub record IndexEntry : Type 0 where
   pub offset : ℕ
   pub len : ℕ
 
--- where a record on its way to a block comes from: from a piece with this content, or, for a reinsertion, from the
--- address that it was read from
+-- the source of a record on its way to a block: a piece with this content, or, for a reinsertion, the address that it was read from
 pub data Source (C : Type 0) : Type 0 where
   Given : C → Source C
   Reread : Address → Source C

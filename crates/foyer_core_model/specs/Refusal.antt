@@ -19,8 +19,7 @@ Draws (Delete h) = Unit {0}
 Draws DestroyBegin = Unit {0}
 Draws step = ⊥
 
--- where a step grows something, by the reply that it would have; the end of a load, a receipt and the start of a flush
--- aren't among them
+-- a step grows something, by the reply that it would have; the end of a load, a receipt and the start of a flush aren't among these steps
 abbrev pub Allocates : {C : Type 0} → Step C → Reply C → Type 0
 Allocates (Enqueue h n age c) (Queued s) = Unit {0}
 Allocates (Enqueue h n age c) (Dropped d s) = Unit {0}
@@ -36,7 +35,7 @@ Allocates DestroyClear (Cleared bs) = Unit {0}
 Allocates step reply = ⊥
 
 module _ {C : Type 0} (rules : Rules C) (old : State C) where
-  -- the front of a queue takes memory: a piece, a mark and a wait do, a reinsertion where it is put into the buffer
+  -- the front of a queue takes memory: a piece, a mark and a wait do, and a reinsertion does if it is put into the buffer
   abbrev pub TakesMemory : Flusher C → List (Submission C) → Type 0
   TakesMemory φ [] = ⊥
   TakesMemory φ (Piece h s n c ∷ rest) = Unit {0}
@@ -52,8 +51,8 @@ module _ {C : Type 0} (rules : Rules C) (Splits : Splitting C) (old : State C) w
   DrawsNow DestroyBegin = Unit {0}
   DrawsNow step = ⊥
 
-  -- an allocation is needed that can be refused: of a load where a key or a value is decoded, of a receipt by what it takes,
-  -- of a flush that begins always, of any other step by its reply
+  -- an allocation is needed that can be refused: a load needs one if a key or a value is decoded; a receipt does by what it takes; a flush
+  -- that begins always does; any other step does by its reply
   abbrev pub NeedsMemory : Step C → Type 0
   NeedsMemory (LoadEnd t (Bytes bs)) = IsDecoded rules old (judged rules old t bs)
   NeedsMemory (Receive f) = TakesMemory rules old (old.flushers f) (old.flushers f).queue

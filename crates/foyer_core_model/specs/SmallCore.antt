@@ -70,7 +70,7 @@ one_spread at r = record { parts = record { blob = 0; at = at; content = r.bytes
 abbrev pub no_spread : Position → BlockLayout ℕ
 no_spread f = record { parts = []; end = f }
 
--- where one record goes: into an empty block, or behind a first one
+-- the place of one record: in an empty block, or behind a first record
 abbrev pub GoesTo : ℕ → Position → List (Record ℕ) → List (BlockLayout ℕ) → Type 0
 GoesTo at f rs ss =
     (h s a b c : ℕ) × (source : Source ℕ) × (f ≡ filled_to at) × (rs ≡ three h s a b c source ∷ []) × (ss ≡ one_spread at (three h s a b c source) ∷ [])

@@ -18,7 +18,7 @@ abbrev pub is_none : {X : Type 0} → Option X → Bool
 is_none None = true
 is_none (Some x) = false
 
--- a record that was committed, and where it stands
+-- a record that was committed, and its place
 pub record Stored (C : Type 0) : Type 0 where
   pub block : ℕ
   pub filling : ℕ
@@ -156,12 +156,12 @@ abbrev pub IsScanned : (ℕ → ℕ) → Option Scan → ReadResult → Type 0
 IsScanned bytes None result = Unit {0}
 IsScanned bytes (Some s) result = IsRead bytes s.offset s.len s.read_state result
 
--- what may be brought for a read of a reclaim that has come: what it gave, or a fault, as where memory is refused for it
+-- what may be brought for a reclaim's read that has come: what the read gave, or a fault, for example if memory for it is refused
 abbrev pub IsBrought : ReadState → ReadResult → Type 0
 IsBrought read_state (Bytes bs) = read_state ≡ ReadDone (Bytes bs)
 IsBrought read_state Fault = (came : ReadResult) × (read_state ≡ ReadDone came)
 
--- what may happen, where callers hand in such contents
+-- what may happen, if callers hand in such contents
 module _ {C : Type 0} (rules : Rules C) (Splits : Splitting C) (is_value : C → Type 0) where
   -- A step that brings a result brings the true one of its access, when it has come, or a fault for a reclaim's read; an
   -- Enqueue brings a content that callers have; hashes have 64 bits. Every other step comes at any time, out of turn too.

@@ -47,7 +47,7 @@ pub fn puts_are_queued<C>()
         → PutsAreQueued rules (λ f rs ss. splits f rs ss ≡ true) (λ c. is_value c ≡ true) }
 {}
 
-/// A piece is ignored or handed back only where it may be.
+/// A piece is ignored or handed back only if it may be.
 pub fn queue_clause<C>()
     ensures { (rules : Rules C) (splits : Position → List (Record C) → List (BlockLayout C) → Bool)
         → QueueKeeps rules (λ f rs ss. splits f rs ss ≡ true) }
@@ -59,7 +59,7 @@ pub fn commit_clause<C>()
         → CommitKeeps rules (λ f rs ss. splits f rs ss ≡ true) }
 {}
 
-/// A reclaim begins only where it may.
+/// A reclaim begins only if it may.
 pub fn reclaim_clause<C>()
     ensures { (rules : Rules C) (splits : Position → List (Record C) → List (BlockLayout C) → Bool)
         → ReclaimKeeps rules (λ f rs ss. splits f rs ss ≡ true) }
@@ -94,7 +94,7 @@ pub fn reaches_every_reply()
     ensures { ReachesEveryReply }
 {}
 
-/// The clean list is the clean set: a block is listed just where it is clean, and once.
+/// The clean list is the clean set: a block is listed exactly if it is clean, and once.
 pub fn lists_clean<C>()
     ensures { (rules : Rules C) (splits : Position → List (Record C) → List (BlockLayout C) → Bool) (is_value : C → Bool)
         → ListsClean rules (λ f rs ss. splits f rs ss ≡ true) (λ c. is_value c ≡ true) }

@@ -63,7 +63,7 @@ pub record IsRun {C : Type 0} (rules : Rules C) (Splits : Splitting C) (is_value
 
 -- the bytes at the stop
 
--- The bytes are those that the writes left, but any bytes where a write or a clean is under way.
+-- The bytes are those that the writes left, except where a write or a clean is under way. There any bytes may stand.
 abbrev pub IsStopped : {C : Type 0} → Rules C → World C → (ℕ → ℕ → ℕ) → Type 0
 IsStopped rules w bytes = (b o : ℕ) → covers rules w b o ≡ false → bytes b o ≡ w.bytes b o
 
@@ -113,8 +113,8 @@ IsFoundNewer w bytes o h a = (x : Address) × (o.index h ≡ Some (Indexed x)) �
 abbrev pub no_fault : ℕ → ℕ → Bool
 no_fault b p = false
 
--- Where a run is stopped, at any moment, and the bytes that it left are opened: each address that the index had, and whose
--- block wasn't being written, is found again, or a newer record of its hash is found, which the run had wholly written.
+-- A run is stopped at any moment, and the bytes that it left are opened. Take an address that the index had and whose block wasn't being
+-- written. The address is found again, or a newer record of its hash is found, which the run had wholly written.
 abbrev pub FindsAgain : {C : Type 0} → Rules C → Splitting C → (C → Type 0) → Type 0
 FindsAgain {C} rules Splits is_value =
     (w : World C) (bytes : ℕ → ℕ → ℕ) (mode : RecoverMode) (o : Opened) (h : ℕ) (a : Address)
@@ -123,7 +123,7 @@ FindsAgain {C} rules Splits is_value =
     → w.core.index h ≡ Some (Indexed a) → (IsBeingWritten w.core a.block → ⊥)
     → IsFoundAgain o h a ⊎ IsFoundNewer w bytes o h a
 
--- Where no flush was under way, each address that the index had is found again.
+-- If no flush was under way, each address that the index had is found again.
 abbrev pub FindsAll : {C : Type 0} → Rules C → Splitting C → (C → Type 0) → Type 0
 FindsAll {C} rules Splits is_value =
     (w : World C) (bytes : ℕ → ℕ → ℕ) (mode : RecoverMode) (o : Opened) (h : ℕ) (a : Address)

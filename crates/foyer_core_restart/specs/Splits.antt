@@ -51,7 +51,7 @@ pub record IsRealSplit (A : Type 0) {C : Type 0} (rules : Rules C) (f : Position
   pub all : records_of blocks ≡ records
   pub some : blocks ≢ []
 
--- whatever the splitter places has such blocks, which end where the splitter goes on
+-- whatever the splitter places has such blocks, and they end at the position from which the splitter goes on
 abbrev pub SplitIsReal : Type 0 → {C : Type 0} → Rules C → Type 0
 SplitIsReal A {C} rules =
     (whole : Section) (infos : List BufferEntryInfo) (records : List (Record C)) (f : Position) (batch : Batch A) (end : laid.Position)

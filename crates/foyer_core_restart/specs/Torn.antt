@@ -94,7 +94,7 @@ newer = record { hash = 2; sequence = 2; bytes = 7 ∷ 6 ∷ []; source = Given 
 abbrev pub other : Record (List ℕ)
 other = record { hash = 3; sequence = 3; bytes = 5 ∷ 4 ∷ []; source = Given (5 ∷ 4 ∷ []) }
 
--- where a record is placed that has a part to itself, and how far its block is filled then
+-- the place of a record that has a part to itself, and how far its block is filled then
 pub record Place : Type 0 where
   pub blob : ℕ
   pub at : ℕ
@@ -129,7 +129,7 @@ ReachesTorn A =
     (p q r : Place)
     → ArePlaced A (small entries_of above some whole) p q r → TornStop A (small entries_of above some whole) p
 
--- Where the rules are of the real format, the law speaks of such a stop.
+-- If the rules are of the real format, the law speaks of such a stop.
 abbrev pub FindsAfterTorn : Type 0 → Type 0
 FindsAfterTorn A =
     (entries_of : ℕ → List ℕ → Option (List IndexEntry)) (above : (n : ℕ) → n ≤ page_up n) (some : 0 < 2) (whole : page ≤ 4096)

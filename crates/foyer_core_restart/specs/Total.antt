@@ -11,7 +11,7 @@ use Rattle.foyer_core_restart.specs.Restart.{no_fault}
 abbrev pub ListsExist : {C : Type 0} → Rules C → Type 0
 ListsExist rules = (B : ℕ → ℕ) (failed : ℕ → Bool) → (es : List BlobEntryIndex) × Lists (sizes_of rules) B failed es
 
--- Where no read fails and there are no marks, what is kept has the last sequence or an opening gives an index.
+-- If no read fails and there are no marks, an opening gives an index, or something that is kept has the last sequence.
 abbrev pub OpensUnlessLast : {C : Type 0} → Rules C → Type 0
 OpensUnlessLast rules =
     (bytes : ℕ → ℕ → ℕ) (mode : RecoverMode)

@@ -16,35 +16,35 @@ ghost use Rattle.foyer_core_restart.specs.Witness.{ReachesIndexed};
 
 use std::alloc::Allocator;
 
-/// Where a run is stopped, at any moment, and the bytes that it left are opened, each address that the index had is found
-/// again, or a newer record of its hash, unless its block was being written.
+/// A run is stopped at any moment, and the bytes that it left are opened. Take an address that the index had and whose block wasn't being
+/// written. The address is found again, or a newer record of its hash is found.
 pub fn restart_law<C, A: Allocator>()
     ensures { (rules : Rules C) (splits : Position → List (Record C) → List (BlockLayout C) → Bool) (is_value : C → Bool)
         → RestartLaw A rules (λ f rs ss. splits f rs ss ≡ true) (λ c. is_value c ≡ true) }
 {}
 
-/// Where no flush was under way at the stop, each address that the index had is found again.
+/// If no flush was under way at the stop, each address that the index had is found again.
 pub fn idle_law<C, A: Allocator>()
     ensures { (rules : Rules C) (splits : Position → List (Record C) → List (BlockLayout C) → Bool) (is_value : C → Bool)
         → IdleLaw A rules (λ f rs ss. splits f rs ss ≡ true) (λ c. is_value c ≡ true) }
 {}
 
-/// The restart law where the splitter places each batch.
+/// The restart law, if the splitter places each batch.
 pub fn real_restart_law<C, A: Allocator>()
     ensures { (rules : Rules C) (is_value : C → Bool) → RealRestartLaw A rules (λ c. is_value c ≡ true) }
 {}
 
-/// The same where no flush was under way.
+/// The same, if no flush was under way.
 pub fn real_idle_law<C, A: Allocator>()
     ensures { (rules : Rules C) (is_value : C → Bool) → RealIdleLaw A rules (λ c. is_value c ≡ true) }
 {}
 
-/// The restart law where each batch is laid out as the splitter does it, over the model's own records.
+/// The restart law, if each batch is laid out as the splitter does it, over the model's own records.
 pub fn laid_restart_law<C>()
     ensures { (rules : Rules C) (is_value : C → Bool) → LaidRestartLaw rules (λ c. is_value c ≡ true) }
 {}
 
-/// The same where no flush was under way.
+/// The same, if no flush was under way.
 pub fn laid_idle_law<C>()
     ensures { (rules : Rules C) (is_value : C → Bool) → LaidIdleLaw rules (λ c. is_value c ≡ true) }
 {}

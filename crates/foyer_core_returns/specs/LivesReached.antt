@@ -18,8 +18,8 @@ use Rattle.foyer_core_returns.specs.EndedLives.{EndsLife}
 use Rattle.foyer_core_returns.specs.Lives.{cleaned_life, life_from, life_of}
 use Rattle.foyer_core_returns.specs.Returns.{HasNoOwnStrays, HasNoTornClean}
 
--- one flusher, two blocks of four pages, the first of which is its index, and room for a page; a reclaim
--- may begin where none is clean; all else as it was
+-- There is one flusher, and room for a page. Each of the two blocks has four pages, of which the first is its index. A reclaim may begin if
+-- no block is clean. All else is as it was.
 abbrev pub four_pages : Settings → Settings
 four_pages s = record s {
   blocks = 2;
@@ -33,9 +33,9 @@ four_pages s = record s {
   clean_block_threshold = 1;
 }
 
--- All that the laws ask is met, by a run whose own opening found entries in two blocks. It reclaims one of them, which zeros its
--- first page alone. Then it writes a record into it, whose data end just where an index of the earlier life is. What the run left is
--- opened, and has the record and the other block's address, and nothing of the earlier life.
+-- A run meets all that the laws ask, and its own opening found entries in two blocks. The run reclaims one of these blocks, which zeros the
+-- block's first page alone. Then it writes a record into that block, and the record's data end just where an index of the earlier life is.
+-- What the run left is opened. The opening has the record and the other block's address, and nothing of the earlier life.
 pub record IsReachedOver {C : Type 0} (rules : Rules C) (Splits : Splitting C) (is_value : C → Type 0) : Type 0 where
   pub first : World C
   pub before : List (WorldEvent C)
@@ -68,7 +68,7 @@ pub record IsReachedOver {C : Type 0} (rules : Rules C) (Splits : Splitting C) (
   pub stopped_inside : IsStopped rules (after_all rules first (before ++ end ∷ sooner)) bytes
   pub strays_inside : HasNoOwnStrays rules (life_of rules first (before ++ end ∷ sooner)) bytes
   pub torn_inside : HasNoTornClean rules (after_all rules first (before ++ end ∷ sooner)) bytes
-  -- into a block that was reclaimed, where its data end before an index of the earlier life
+  -- the record went into a block that was reclaimed, and its data end just before an index of the earlier life
   pub ended : EndsLife address.block end
   pub old_hash : ℕ
   pub old : Address

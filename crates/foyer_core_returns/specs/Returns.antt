@@ -24,15 +24,15 @@ use Rattle.foyer_core_returns.specs.Lives.{Life, life_of}
 abbrev pub IsCovered : List Write → ℕ → Type 0
 IsCovered writes o = (v : Write) × In v writes × (is_in v o ≡ true)
 
--- Where the block's present life has written the first byte of a scanned place, bytes that pass as an index with entries are the
--- whole content of a write of an index that this life made or began there. Nothing is asked of what was there before.
+-- If the block's present life has written the first byte of a scanned place, bytes there that pass as an index with entries are the whole
+-- content of a write of an index that this life made or began there. Nothing is asked of what was there before.
 abbrev pub HasNoOwnStrays : {C : Type 0} → Rules C → (ℕ → Life C) → (ℕ → ℕ → ℕ) → Type 0
 HasNoOwnStrays rules lives bytes =
     (b p : ℕ) (e : BlobEntryIndex) (es : List BlobEntryIndex)
     → b < rules.blocks → IsScanned (sizes_of rules) (bytes b) 0 p → IsIndex (sizes_of rules) (bytes b) all_read p (e ∷ es) → IsCovered (lives b).writes p
     → (v : Write) × In v (lives b).writes × (v.role ≡ Index) × (v.offset ≡ p) × (v.bytes ≡ read (bytes b) p rules.index_size)
 
--- Where a clean is under way, bytes at the block's start that pass as an index with entries are those that were there.
+-- If a clean is under way, bytes at the block's start that pass as an index with entries are those that were there.
 abbrev pub HasNoTornClean : {C : Type 0} → Rules C → World C → (ℕ → ℕ → ℕ) → Type 0
 HasNoTornClean rules w bytes =
     (b : ℕ) (e : BlobEntryIndex) (es : List BlobEntryIndex)

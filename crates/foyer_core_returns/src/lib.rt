@@ -25,7 +25,7 @@ pub fn returns_law<C, A: Allocator>()
         → ReturnsLaw A rules (λ f rs ss. splits f rs ss ≡ true) (λ c. is_value c ≡ true) }
 {}
 
-/// The same where each batch is laid out as the splitter does it, over the model's own records.
+/// The same, if each batch is laid out as the splitter does it, over the model's own records.
 pub fn laid_returns_law<C>()
     ensures { (rules : Rules C) (is_value : C → Bool) → LaidReturnsLaw rules (λ c. is_value c ≡ true) }
 {}
@@ -43,7 +43,7 @@ pub fn ended_law<C, A: Allocator>()
         → EndedLaw A rules (λ f rs ss. splits f rs ss ≡ true) (λ c. is_value c ≡ true) }
 {}
 
-/// The same where each batch is laid out as the splitter does it, over the model's own records.
+/// The same, if each batch is laid out as the splitter does it, over the model's own records.
 pub fn laid_ended_law<C>()
     ensures { (rules : Rules C) (is_value : C → Bool) → LaidEndedLaw rules (λ c. is_value c ≡ true) }
 {}

@@ -31,8 +31,8 @@ module _ {C : Type 0} where
     pub below : n < w.issued
     pub kept : load.kept ≡ Some b
 
-  -- What stays where a deed doesn't take the right. A read for a reclaim stays unless another reclaim of the block begins. A clean
-  -- that was issued stays so whoever issues it again, and one that is done until then.
+  -- What stays if a deed doesn't take the right. A read for a reclaim stays unless another reclaim of the block begins. A clean that was
+  -- issued stays issued, whoever issues it again. A clean that is done stays done until it is issued again.
   pub record FrameHolds (rules : Rules C) (w : World C) (d : Deed C) : Type 0 where
     pub core : (Takes d OfCore → ⊥) → (after_deed rules w d).core ≡ w.core
     pub history : (Takes d OfCore → ⊥) → (after_deed rules w d).history ≡ w.history
@@ -47,8 +47,8 @@ module _ {C : Type 0} where
 abbrev pub FramesHold : (C : Type 0) → Type 0
 FramesHold C = (rules : Rules C) (w : World C) (d : Deed C) → FrameHolds rules w d
 
--- Where the world was reached and the deed may happen, no access is issued again before it is reported: a read for a reclaim stays,
--- and so does a clean that is done, while nobody takes its right.
+-- If the world was reached and the deed may happen, no access is issued again before it is reported. A read for a reclaim stays while
+-- nobody takes its right, and so does a clean that is done.
 pub record IssuedStays {C : Type 0} (rules : Rules C) (w : World C) (d : Deed C) : Type 0 where
   pub scans : (b : ℕ) (s : Scan) → IsSettled s.read_state → (Takes d (OfScan b) → ⊥) → w.scans b ≡ Some s → (after_deed rules w d).scans b ≡ Some s
   pub cleaned : (b : ℕ) (ok : Bool) → (Takes d (OfClean b) → ⊥) → w.clean_states b ≡ CleanDone ok → (after_deed rules w d).clean_states b ≡ CleanDone ok

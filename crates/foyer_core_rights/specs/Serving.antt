@@ -15,8 +15,8 @@ use Rattle.foyer_core_model.specs.Laws.{Demands, IsReached, IsAnswer}
 use Rattle.foyer_core_rights.specs.Deeds.{Deed, Steps, ReadsAt, ScansAt, WritesAt, CleansAt, BeginsReclaim, events_in, after_deed}
 use Rattle.foyer_core_rights.specs.Frames.{HasLoad, HasBlock}
 
--- Where a put is newest after a deed, its block is kept; or it was newest before, and what is kept is as it was, or the reclaim of
--- the block that was kept began.
+-- If a put is newest after a deed, its block is kept, or the put was newest before. In the second case what is kept is as it was, or the
+-- reclaim of the block that was kept began.
 abbrev pub LosesByReclaim : (C : Type 0) → Type 0
 LosesByReclaim C =
     (rules : Rules C) (w : World C) (d : Deed C) (h s : ℕ) (x : Outcome C) → newest h (after_deed rules w d).history ≡ Some (Put h s x)
@@ -27,7 +27,7 @@ pub record Serves {C : Type 0} (rules : Rules C) (Splits : Splitting C) (is_valu
   -- a look-up that issues a read is promised what is newest just then
   pub looks : (w : World C) (h : ℕ) (throttled : Bool) (t : Ticket) (new : State C)
       → HasLoad (after_deed rules w (Steps (LoadBegin h throttled) (Read t) new)) w.issued t (newest t.hash w.history) ReadIssued
-  -- and has the block of the last commit of its hash, where that is kept
+  -- and has the block of the last commit of its hash, if that block is kept
   pub keeps : (w : World C) (h : ℕ) (throttled : Bool) (t : Ticket) (new : State C) (b : ℕ) → w.kept t.hash ≡ Some b
       → HasBlock (after_deed rules w (Steps (LoadBegin h throttled) (Read t) new)) w.issued b
   -- a read that gives what the disk has is one that may happen
@@ -44,13 +44,13 @@ pub record Serves {C : Type 0} (rules : Rules C) (Splits : Splitting C) (is_valu
       → MayAllHappen rules Splits is_value w (events_in (ScansAt b (Bytes bs))) × ((after_deed rules w (ScansAt b (Bytes bs))).scans b ≡ Some (record s { read_state = ReadDone (Bytes bs) }))
   pub scan_faults : (w : World C) (b : ℕ) (s : Scan) → w.scans b ≡ Some s → s.read_state ≡ ReadIssued
       → MayAllHappen rules Splits is_value w (events_in (ScansAt b Fault)) × ((after_deed rules w (ScansAt b Fault)).scans b ≡ Some (record s { read_state = ReadDone Fault }))
-  -- a write that was issued may be done, and leaves its bytes, or where it failed any in its range
+  -- a write that was issued may be done, and leaves its bytes; if it failed, it leaves any bytes in its range
   pub writes : (w : World C) (f b : ℕ) (results : List Bool) (write : Write) (left : List Write) (ok : Bool) (torn : ℕ → ℕ) → w.block_writes f ≡ Issued b results (write ∷ left)
       → ((o : ℕ) → IsBeside write o → torn o ≡ w.bytes b o)
       → MayAllHappen rules Splits is_value w (events_in (WritesAt f ok torn))
       × ((after_deed rules w (WritesAt f ok torn)).block_writes f ≡ Issued b (results ++ ok ∷ []) (if ok then left else []))
       × ((after_deed rules w (WritesAt f ok torn)).bytes ≡ put w.bytes b (if ok then laid write (w.bytes b) else torn))
-  -- a clean that was issued may be done, and leaves zeros in its page, or where it failed anything there
+  -- a clean that was issued may be done, and leaves zeros in its page; if it failed, it leaves any bytes there
   pub cleans : (w : World C) (b : ℕ) (ok : Bool) (torn : ℕ → ℕ) → w.clean_states b ≡ CleanIssued → ((o : ℕ) → page ≤ o → torn o ≡ w.bytes b o)
       → MayAllHappen rules Splits is_value w (events_in (CleansAt b ok torn))
       × ((after_deed rules w (CleansAt b ok torn)).clean_states b ≡ CleanDone ok)

@@ -19,7 +19,7 @@ pub fn issued_stays<C>()
         → AllIssuedStays rules (λ f rs ss. splits f rs ss ≡ true) (λ c. is_value c ≡ true) }
 {}
 
-/// Where a put is newest, the block of its commit is lost to the block's reclaim alone.
+/// While a put is newest, the block of its commit is lost only to that block's reclaim.
 pub fn loses_by_reclaim<C>()
     ensures { LosesByReclaim C }
 {}

@@ -34,11 +34,11 @@ KeepsOthers f old new = (g : ℕ) → g ≢ f → new.flushers g ≡ old.flusher
 abbrev pub KeepsIdle : {C : Type 0} → State C → State C → Type 0
 KeepsIdle old new = (f : ℕ) → IsIdle (old.flushers f) → IsIdle (new.flushers f)
 
--- states are related so where there is no filter
+-- states are related so if there is no filter
 abbrev pub Without : {C F : Type 0} → Option F → (State C → State C → Type 0) → State C → State C → Type 0
 Without filter Relates old new = filter ≡ None → Relates old new
 
--- every other flusher that was idle is idle, where there is no filter
+-- every other flusher that was idle is idle, if there is no filter
 abbrev pub KeepsOthersIdle : {C F : Type 0} → Option F → ℕ → State C → State C → Type 0
 KeepsOthersIdle filter f old new = filter ≡ None → (g : ℕ) → g ≢ f → IsIdle (old.flushers g) → IsIdle (new.flushers g)
 
@@ -50,7 +50,7 @@ BeginsNone f old new = KeepsOthers f old new × ((old.flushers f).batch ≡ None
 abbrev pub TakesQueue : {C : Type 0} → ℕ → State C → State C → Type 0
 TakesQueue f old new = BeginsNone f old new × ((new.flushers f).queue ≡ [])
 
--- this flusher's queue is taken, up to its end where this is true
+-- this flusher's queue is taken, and up to its end if `is_empty` is true
 abbrev pub TakesQueueIf : {C : Type 0} → Bool → ℕ → State C → State C → Type 0
 TakesQueueIf is_empty f old new = BeginsNone f old new × (is_empty ≡ true → (new.flushers f).queue ≡ [])
 

@@ -41,7 +41,7 @@ module _ {K V P A : Type 0} (m : Meaning K V P) (f : ℕ) where
     pub is : events ≡ Applies (model_step.FlushBegin f) it after ∷ []
     pub reply : IsReply m said it
 
-  -- The one or the other. Where no batch began the log is as it was.
+  -- One of the two holds. If no batch began, the log is as it was.
   abbrev pub IsBatchBegun : {L : Type 0} → Appending L → L → L → Reply K V P A → List (WorldEvent Content) → Type 0
   IsBatchBegun Appends old new (reply.Began blocks marks) events = IsLogged blocks marks.items (Appends old marks.items new) (reply.Began blocks marks) events
   IsBatchBegun Appends old new said events = (new ≡ old) × IsUnbegun said events

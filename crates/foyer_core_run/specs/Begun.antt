@@ -12,8 +12,8 @@ use Rattle.foyer_core_laws.specs.Settings.{Settings}
 use Rattle.foyer_core_steps.specs.declared.state.Core.{Core}
 use Rattle.foyer_core_run.specs.Newest.{IsHistory}
 
--- The history begins with a put for each address that was found over these bytes; where the disk shows them, what was found
--- is exactly what they and these marks give.
+-- The history begins with a put for each address that was found over these bytes. If the disk shows them, what was found is exactly what
+-- the bytes and these marks give.
 pub record IsBegun {K V P A : Type 0} (m : Meaning K V P) (s : Settings) (sound : AreValid s) (bytes : ℕ → ℕ → ℕ) (surely_has : ℕ → ℕ → ℕ → Type 0) (mode : RecoverMode) (marks : List (ℕ × ℕ)) (is_seen : Type 0) (core : Core K V P A) (now : ℕ → ℕ → ℕ) : Type 0 where
   pub found : Opened
   pub addresses : List (ℕ × Address)

@@ -22,7 +22,7 @@ HasCome lies faults old new block offset len = HasFailedNone (faults old) (fault
 abbrev pub HasComeAnywhere : (block offset len : ℕ) → Type 0
 HasComeAnywhere block offset len = Unit {0}
 
--- So did the write that is under way. Where none is, none can fail.
+-- The write that is under way surely came, too. If none is under way, none can fail.
 abbrev pub HasWriteCome : (ℕ → ℕ → ℕ → Type 0) → BlockWrites → Type 0
 HasWriteCome came (InFlight b results x ws) = came b x.offset (length x.bytes)
 HasWriteCome came pending = Unit {0}

@@ -62,7 +62,7 @@ pub record HasDestroyed {C : Type 0} (events : List (WorldEvent C)) : Type 0 whe
 abbrev pub AwaitCleans : {C : Type 0} → (i n : ℕ) → World C → Type 0
 AwaitCleans i n w = (b : ℕ) → i ≤ b → b < n → w.clean_states b ≡ CleanIssued
 
--- From each world whose core and bytes are those before, by such steps, which destroyed all where this holds.
+-- From each world whose core and bytes are those before, such steps lead to those after. If `IsDone` holds, the steps destroyed all.
 abbrev pub Destroys : {K V P A : Type 0} → (IsDone : Type 0) → Meaning K V P → Core K V P A → Core K V P A → (old_bytes new_bytes : ℕ → ℕ → ℕ) → Type 0
 Destroys IsDone m old new old_bytes new_bytes = DrivesBy (λ events. AllSteps IsDestroying events × (IsDone → HasDestroyed events)) m old new old_bytes new_bytes
 
@@ -87,16 +87,16 @@ module _ {K V P A : Type 0} (m : Meaning K V P) where
     pub is : events ≡ Applies model_step.DestroyClear it after ∷ []
     pub reply : IsReply m last it
 
-  -- from each world whose core and bytes are those before, to one where the cleans from i on await their turn; a clean that
-  -- failed isn't one of which it is sure that it came
+  -- from each world whose core and bytes are those before, steps lead to one in which the cleans from i on await their turn; if a clean
+  -- failed, it isn't sure that the clean came
   abbrev pub ClearsUpTo : (came : ℕ → ℕ → ℕ → Type 0) → (i : ℕ) → Reply K V P A → (old new : Core K V P A) → (old_bytes new_bytes : ℕ → ℕ → ℕ) → Type 0
   ClearsUpTo came i last old new old_bytes new_bytes =
       (s : Settings) (sound : AreValid s) (w : World Content) → IsStateOf m s old w.core → ((b o : ℕ) → w.bytes b o ≡ old_bytes b o)
       → (driven : IsDriven m s sound w new new_bytes) × IsClearing i last driven.events × AwaitCleans i s.blocks (after_all (machine m s sound) w driven.events)
       × AreForCause came (machine m s sound) w driven.events
 
-  -- The clean of a block where it is issued, and the step that brings its result, which is answered so. The cleans of the
-  -- other blocks are as they were.
+  -- The clean of a block, and then the step that brings the clean's result and is answered so. The cleans of the other blocks are as they
+  -- were.
   pub record IsCleanedOnce (s : Settings) (sound : AreValid s) (b : ℕ) (last : Reply K V P A) (w : World Content) (events : List (WorldEvent Content)) : Type 0 where
     pub is_ok : Bool
     pub torn : ℕ → ℕ

@@ -22,8 +22,8 @@ use Rattle.foyer_core_steps.specs.declared.step.Step.TheVariants as step
 use Rattle.foyer_core_run.specs.Accesses.{writes_of}
 use Rattle.foyer_core_run.specs.Runs.{Runs}
 
--- From each state of the model that the core stood for: a load is answered Io only where the index has an address of the
--- hash, of which it isn't sure that a read of it came.
+-- From each state of the model that the core stood for: a load is answered Io only if the index has an address of the hash, and it isn't
+-- sure that a read of that address came.
 abbrev pub FailsAtRead : {K V P A : Type 0} → Meaning K V P → (hash : ℕ) → (came : ℕ → ℕ → ℕ → Type 0) → Core K V P A → Reply K V P A → Type 0
 FailsAtRead {K} {V} {P} {A} m hash came old last =
     (back : Step K V P A) → last ≡ reply.Refused kind.Io back → (s : Settings) → AreValid s → (it : State Content) → IsStateOf m s old it
@@ -45,7 +45,7 @@ pub record IsFailedForCause {K V P A : Type 0} (m : Meaning K V P) (flusher : �
       × Runs m (writes_of flusher count) (reply.Write block ws ∷ replicate count reply.Next) old core bytes now
   pub cause : (came block write.offset (length (written_bytes write.bytes)) → ⊥) ⊎ IsSomeAnd (slice_get core.flushers.items flusher) (MustGrowFor core.index)
 
--- From each state of the model that the core stood for there is such a cause, where Failed was answered last.
+-- From each state of the model that the core stood for there is such a cause, if Failed was answered last.
 abbrev pub FailsForCause : {K V P A : Type 0} → Meaning K V P → (flusher : ℕ) → (came : ℕ → ℕ → ℕ → Type 0) → (is_known : Type 0) → Core K V P A → (ℕ → ℕ → ℕ) → Reply K V P A → Type 0
 FailsForCause m flusher came is_known old bytes last =
     last ≡ reply.Failed → (s : Settings) → AreValid s → (it : State Content) → IsStateOf m s old it → IsFailedForCause m flusher came is_known old bytes

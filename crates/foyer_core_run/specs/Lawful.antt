@@ -26,8 +26,8 @@ use Rattle.foyer_core_run.specs.Moves.{AreMade}
 use Rattle.foyer_core_run.specs.declared.moves.Move.{Move}
 
 module _ {C : Type 0} (rules : Rules C) (first : World C) (events : List (WorldEvent C)) where
-  -- Where a look-up issued a read, and after whatever came between a load ended with an entry by the bytes of that read,
-  -- the entry was newest of its hash at the look-up.
+  -- A look-up issued a read, and whatever came between, a load ended with an entry by the bytes of that read. Then the entry was newest of
+  -- its hash at the look-up.
   abbrev pub EntriesAreNewest : Type 0
   EntriesAreNewest =
       (before between rest : List (WorldEvent C)) (h : ℕ) (throttled : Bool) (t : Ticket) (looked : State C) (result : ReadResult) (c : C) (age : Age) (ended : State C) (l : Load C)
@@ -52,8 +52,8 @@ module _ {C : Type 0} (rules : Rules C) (first : World C) (events : List (WorldE
       (before rest : List (WorldEvent C)) (t : Ticket) (result : ReadResult) (c : C) (age : Age) (ended : State C)
       → events ≡ before ++ Applies (LoadEnd t result) (model_reply.Entry c age) ended ∷ rest → WasNewest before t c
 
-  -- Where the newest event of a hash was the put of a record, the look-up issued a read, and the load by the bytes of that
-  -- read was answered by that record, or by the cause that is named for it.
+  -- If the newest event of a hash was the put of a record, the look-up issued a read. The load by the bytes of that read was answered by that
+  -- record, or by the cause that is named for it.
   abbrev pub NewestAreAnswered : Type 0
   NewestAreAnswered =
       (before after : List (WorldEvent C)) (h : ℕ) (reply : model_reply.Reply C) (looked : State C) (b s : ℕ) (x : Outcome C)
@@ -86,7 +86,7 @@ pub record IsLawful {K V P A : Type 0} (m : Meaning K V P) (s : Settings) (sound
   pub misses : NewestAreAnswered (machine m s sound) first events
   pub puts : PutsWereQueued (machine m s sound) first events
 
--- the same of a world with what an opening found over these bytes and marks: where the disk shows them, exactly what they give
+-- the same of a world with what an opening found over these bytes and marks; if the disk shows them, that is exactly what they give
 pub record IsLawfulFrom {K V P A : Type 0} (m : Meaning K V P) (s : Settings) (sound : AreValid s) (bytes shown : ℕ → ℕ → ℕ) (surely_has : ℕ → ℕ → ℕ → Type 0) (mode : RecoverMode) (marks : List (ℕ × ℕ)) (moves : List (Move K V P A)) (said : List (Reply K V P A)) : Type 0 where
   pub found : Opened
   pub addresses : List (ℕ × Address)

@@ -58,9 +58,9 @@ module _ {K V P A : Type 0} (m : Meaning K V P) where
   abbrev pub IsPassed : List (WorldEvent Content) → List (Reply K V P A) → Type 0
   IsPassed events said = (events ≡ []) × (said ≡ [])
 
-  -- What a move makes in a world, in a run that began in another. A load ends where its read was issued and hasn't begun,
-  -- with that read before it. A write is reported where one is due, with that write before it: it is passed over only where
-  -- none is due, or none was issued in this run. So is what a reclaim read, where it is due, and the clean of a block.
+  -- What a move makes in a world, in a run that began in another. A load ends if its read was issued and hasn't begun, with that read before
+  -- it. A write is reported if one is due, with that write before it. It is passed over only if none is due, or none was issued in this run.
+  -- The same holds for what a reclaim read, if that is due, and for the clean of a block.
   abbrev pub Makes : (from : World Content) → World Content → Asked K V P A → List (WorldEvent Content) → List (Reply K V P A) → Type 0
   Makes from w (asks.Step given) events said = IsApplied [] (step_of m given) events said
   Makes from w (asks.FlushBlock f) events said = IsApplied [] (model_step.FlushBlock f) events said

@@ -46,9 +46,8 @@ IsPutOrFault m x (reply.Entry key value age) = x ≡ Holds (content m key value)
 IsPutOrFault m x (reply.Refused why back) = MayFail x why
 IsPutOrFault m x answer = ⊥
 
--- What holds, in every history that led here, of the record whose put is the newest event of the hash, where neither a
--- reclaim of its block nor a destroy began since; two steps more are to be had. A record that was found and is none is
--- left out.
+-- What holds, in every history that led here, of the record whose put is the newest event of the hash. Neither a reclaim of its block nor a
+-- destroy began since, and two steps more are to be had. A record that was found but is no record is left out.
 abbrev pub OfPut : {K V P A : Type 0} → Meaning K V P → ℕ → Core K V P A → (ℕ → ℕ → ℕ) → (Outcome Content → Type 0) → Type 0
 OfPut m h core bytes Is =
     (s : Settings) (sound : AreValid s) (first : World Content) (events : List (WorldEvent Content)) → IsHistory m s sound first events core bytes

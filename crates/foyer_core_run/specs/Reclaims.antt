@@ -63,8 +63,8 @@ module _ {K V P A : Type 0} (m : Meaning K V P) where
     pub is : events ≡ before ++ Applies given it after ∷ []
     pub reply : IsReply m last it
 
-  -- these events are a ReclaimBegin and, where it picked a block, steps and accesses of the reclaim of this block; the last
-  -- step was answered so
+  -- The first of these events is a ReclaimBegin. If it picked a block, steps and accesses of the reclaim of this block
+  -- follow. The last step was answered so.
   pub record IsReclaim (last : Reply K V P A) (events : List (WorldEvent Content)) : Type 0 where
     pub it : model_reply.Reply Content
     pub after : State Content
@@ -86,8 +86,9 @@ abbrev pub IsAwaited : {C : Type 0} → (block : ℕ) → Option Part → World 
 IsAwaited b None w = Unit {0}
 IsAwaited b (Some part) w = w.scans b ≡ Some (record { offset = part.offset; len = part.len; read_state = ReadIssued })
 
--- From each world whose core and bytes are those before and where the reclaim of the block awaits one part, by its reads
--- and the steps that bring them, to a world where it awaits the other.
+-- This holds for each world that has the old core and bytes, and in which the reclaim of the block awaits one part. The
+-- reclaim's reads, and the steps that bring them, lead from this world to a world in which the reclaim awaits the next
+-- part.
 abbrev pub Reads : {K V P A : Type 0} → Meaning K V P → (block : ℕ) → (part next : Option Part) → (old new : Core K V P A) → (bytes : ℕ → ℕ → ℕ) → Type 0
 Reads m b part next old new bytes =
     (s : Settings) (sound : AreValid s) (w : World Content) → IsStateOf m s old w.core → ((b o : ℕ) → w.bytes b o ≡ bytes b o) → IsAwaited b part w
@@ -103,6 +104,6 @@ abbrev pub IsUnreadIn : Option Reclaim → Type 0
 IsUnreadIn None = Unit {0}
 IsUnreadIn (Some r) = IsUnread r.stage
 
--- where the reclaim of this block reads no record it reads none afterwards, and flushers that were idle are
+-- if the reclaim of this block reads no record before, it reads none afterwards, and flushers that were idle stay idle
 abbrev pub KeepsUnread : {C : Type 0} → (block : ℕ) → State C → State C → Type 0
 KeepsUnread b old new = IsUnreadIn (old.reclaims b) → KeepsIdle old new × IsUnreadIn (new.reclaims b)

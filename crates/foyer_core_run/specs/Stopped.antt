@@ -54,16 +54,17 @@ module _ {K V P : Type 0} (m : Meaning K V P) (s : Settings) (sound : AreValid s
     pub faults : has_fault events ≡ failed
     pub same : (b o : ℕ) → (after_all (machine m s sound) (zeroed_world found) events).bytes b o ≡ bytes b o
 
-  -- Of a run that was stopped in this world, and of a core with this opening over the bytes that it left: each address that
-  -- the run's index had is found again, or a newer record of its hash, unless its block was being written; where no flush was
-  -- under way each one is found again; and what is found again was newest at the stop.
+  -- About a run that was stopped in this world, and a core with this opening over the bytes that the run left. Each address
+  -- that the run's index had is found again, or a newer record of its hash is, unless the block of the address was being
+  -- written. If no flush was under way, each address is found again. What is found again was newest at the stop.
   pub record KeepsIndexed {A : Type 0} (w : World Content) (bytes : ℕ → ℕ → ℕ) (o : Opened) (core : Core K V P A) : Type 0 where
     pub again : (h : ℕ) (a : Address) → w.core.index h ≡ Some (Indexed a) → (IsBeingWritten w.core a.block → ⊥) → HasAgain core h a ⊎ HasNewer w bytes core h a
     pub all : (h : ℕ) (a : Address) → w.core.index h ≡ Some (Indexed a) → ((f : ℕ) (r : Writing Content) → IsWriting w.core f r → ⊥) → HasAgain core h a
     pub newest : (h : ℕ) (a : Address) → w.core.index h ≡ Some (Indexed a) → HasAgain core h a → BeginsWithNewest m.is_key m.is_value s sound w bytes o h
 
-  -- Such a run left these bytes, and the core was opened on them. It keeps what was indexed, where blocks are read, each event
-  -- of the run went well, and the bytes have no stray index. Each did where no access failed and all that was answered says so.
+  -- Such a run left these bytes, and the core was opened on them. The core keeps what was indexed if blocks are read, each
+  -- event of the run went well, and the bytes have no stray index. Each event went well if no access failed and all replies say
+  -- so.
   pub record IsReopenedRun {A : Type 0} (failed : Bool) (mode : RecoverMode) (moves : List (Move K V P A)) (said : List (Reply K V P A)) (core : Core K V P A) (bytes : ℕ → ℕ → ℕ) : Type 0 where
     pub run : IsRunOverZeros failed moves said bytes
     pub found : Opened

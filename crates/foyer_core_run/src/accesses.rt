@@ -70,14 +70,18 @@ fn put_back<A: Allocator>(spare: &mut Vec<u8, A>, buffer: Option<Vec<u8, A>>)
     }
 }
 
-/// Looks a hash up, does the read that this issues, and brings what came of it: what the load answers. An entry is the
-/// newest put of the hash, whatever led here. Where the newest event is a put, it is answered, or `Refused` for a
-/// failed read or for memory, unless the caller throttles, a reclaim of its block or a destroy began, or under two
-/// steps are left. `Err` is a refused allocation: then nothing was read, and the load never ends. The read goes into the
-/// memory of `spare`, whatever it holds, and only a step that is handed back keeps that memory. `Refused` for `Io` is only
-/// answered where the read of the address that the index has of the hash failed: not where the disk surely has that
-/// range, nor where it surely lies in it and no fault was counted. Of a disk whose bytes
-/// aren't known nothing is claimed but that the load returns.
+/// Looks a hash up, does the read that the look-up issues, and brings the result to the core. Gives what the load answers.
+///
+/// An entry is the newest put of the hash, whatever led to this core. If the newest event of the hash is a put, that put is
+/// answered, or `Refused` for a failed read or for memory. Another answer has one of these causes: the caller throttles, a
+/// reclaim of the put's block or a destroy began, or fewer than two steps are left.
+///
+/// `Err` is a refused allocation. Then nothing was read, and the load never ends. The read goes into the memory of `spare`,
+/// whatever it holds. Only a step that is handed back keeps that memory.
+///
+/// `Refused` for `Io` is only answered if the index has an address of the hash, and the read of that address failed. The read
+/// doesn't fail if the disk surely has that range. It doesn't fail either if the range surely lies in the disk and no fault was
+/// counted. If the disk's bytes aren't known, nothing else is claimed about the answer.
 pub fn load<K, V, P, A, D, E, C>(
     core: &mut Core<K, V, P, A>,
     env: &mut Env<E, C>,
@@ -130,11 +134,13 @@ where
     Ok(reply)
 }
 
-/// Asks a flusher for a block, does the writes that this issues in their order, and reports each: what was answered last,
-/// which never asks for another write, `None` where the block has no write or none that ended it. After a write that failed, and after a report that didn't
-/// ask for the next, the block's others aren't done. `Failed` is only answered where a write that was issued failed, or the
-/// index had to grow for the block's records. A write that is reported as failed isn't one of which it is sure that it came. Of a disk whose bytes aren't known it is only claimed that the other
-/// flushers keep what they have.
+/// Asks a flusher for a block, does the writes that the reply issues in their order, and reports each write. Gives the last
+/// answer, which never asks for another write. Gives `None` if the block has no write, or if no report ended the block. After a
+/// write that failed, and after a report that didn't ask for the next write, the block's other writes aren't done.
+///
+/// `Failed` is only answered if a write that was issued failed, or if the index had to grow for the block's records. If a write
+/// is reported as failed, it isn't sure that the write came. If the disk's bytes aren't known, only three things are claimed: the
+/// causes of `Failed`, that the last answer asks for no other write, and that the other flushers keep what they have.
 pub fn write_block<K, V, P, A, D, E, C>(
     core: &mut Core<K, V, P, A>,
     env: &mut Env<E, C>,

@@ -17,8 +17,9 @@ use foyer_format_record::serde::{Code, Properties};
 use foyer_policy_filter::StorageFilterCondition;
 use std::alloc::Allocator;
 
-/// Begins a flusher's batch, appends its marks to the log, and brings what came of it: what the begin was answered. Where
-/// no batch begins the log is left alone. Without a log of deletes in the core's settings what is brought is out of turn.
+/// Begins a flusher's batch, appends the batch's marks to the log, and brings the log's result to the core. Gives the
+/// answer to the begin. If no batch begins, the log is left alone. If the core's settings have no log of deletes, the
+/// step that brings the result is out of turn.
 pub fn begin_batch<K, V, P, A, L, E, C>(
     core: &mut Core<K, V, P, A>,
     env: &mut Env<E, C>,

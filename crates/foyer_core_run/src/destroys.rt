@@ -50,11 +50,13 @@ where
     )
 }
 
-/// Clears the index, once a destroy has begun and nothing is under way, then cleans each block and brings the results:
-/// what was answered last, `Destroyed` unless the limit of steps came before. `Err` where the index wasn't cleared, with
-/// the step that was out of turn or refused. A clean that fails ends no destroy, and is only reported where the disk failed an
-/// access, or where it isn't sure that the block's first page lies in it. Of a disk whose bytes aren't known nothing is claimed
-/// but that the call returns.
+/// Clears the index, once a destroy has begun and nothing is under way. Then cleans each block and brings each result to the
+/// core. Gives the last answer, which is `Destroyed` unless the limit of steps came first. Gives `Err` if the index wasn't
+/// cleared, with the step that was out of turn or refused.
+///
+/// A clean that fails doesn't end the destroy. A clean is only reported as failed if the disk failed an access, or if it isn't
+/// sure that the block's first page lies in the disk. If the index was cleared and the disk's bytes aren't known, it is only
+/// claimed that the call returns.
 pub fn clear_blocks<K, V, P, A, D, E, C>(
     core: &mut Core<K, V, P, A>,
     env: &mut Env<E, C>,

@@ -228,12 +228,14 @@ where
 
 /// Runs the moves in order, and gives the replies of those that were steps.
 ///
-/// An access that a reply issued is done when its move comes, once, and a fault of the disk is the step's result. A move
-/// whose access wasn't issued in this run, or is done, is passed over; so is a write behind one that failed, or behind one
-/// whose report came back. Memory that is refused for what a reclaim reads is a fault of that read. A write, a clean and the
-/// read of a load only fail where the disk failed an access, or where it isn't sure that their bytes lie in it. `Memory` where
-/// the result of a load, or the list of replies, couldn't be had: then some front of the moves was run, and the others are
-/// dropped.
+/// An access that a reply issued is done once, when its move comes. A fault of the disk is the result of the step. A move is
+/// passed over if its access wasn't issued in this run or is done already. A write is also passed over if it is behind a write
+/// that failed, or behind one whose report came back. If memory is refused for what a reclaim reads, that is a fault of the
+/// read. A write, a clean and the read of a load only fail if the disk failed an access, or if it isn't sure that their bytes
+/// lie in the disk.
+///
+/// Error: `Memory` if there was no memory for the result of a load or for the list of replies. Then only some front of the
+/// moves was run, and the other moves are dropped.
 pub fn run<K, V, P, A, D, E, C>(
     core: &mut Core<K, V, P, A>,
     env: &mut Env<E, C>,

@@ -18,8 +18,8 @@ use foyer_io_disk::disk::Disk;
 use foyer_policy_filter::StorageFilterCondition;
 use std::alloc::Allocator;
 
-// Reads a part for the reclaim of a block and brings it, or a fault where memory is refused for it: what is to be read
-// next, if anything is.
+// Reads a part for the reclaim of a block and brings it to the core, or brings a fault if memory for it is refused. Gives the
+// part that is to be read next, if there is one.
 fn read_part<K, V, P, A, D, E, C>(
     core: &mut Core<K, V, P, A>,
     env: &mut Env<E, C>,
@@ -105,12 +105,14 @@ where
     }
 }
 
-/// Reclaims a block: begins where a reclaim may, reads each index of the picked block and each record that is to be
-/// written again, and brings them, forgets the other entries, and cleans the block. What was answered last: `Done` once the
-/// block may be written again, or the step that was out of turn or refused. A read or a clean that fails ends no reclaim.
-/// The clean is only reported as failed where the disk failed an access, or where it isn't sure that the block's first page lies in it.
-/// Of a disk whose bytes aren't known it is only claimed that, without a filter of reinsertions, idle flushers stay idle;
-/// with one, records are queued at flushers in turn.
+/// Reclaims a block, if a reclaim may begin. Reads each index of the picked block and each record that is to be written again,
+/// and brings them to the core. Then forgets the other entries and cleans the block. Gives the last answer: `Done` once the block
+/// may be written again, or the step that was out of turn or refused.
+///
+/// A read or a clean that fails doesn't end the reclaim. The clean is only reported as failed if the disk failed an access, or if
+/// it isn't sure that the block's first page lies in the disk. If the disk's bytes aren't known, two things are claimed. The last
+/// answer is as said above. If there is no filter of reinsertions, idle flushers stay idle. With a filter, records are queued at
+/// flushers in turn.
 pub fn reclaim_block<K, V, P, A, D, E, C>(
     core: &mut Core<K, V, P, A>,
     env: &mut Env<E, C>,

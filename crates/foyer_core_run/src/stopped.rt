@@ -92,16 +92,18 @@ where
     Core::open(alloc, env, settings, disk, mode, &[])
 }
 
-/// Opens a core over zeroed memory, of which nothing is read, runs the moves over it with what is lent first, and stops: the
-/// core is gone, and what was issued and not done stays undone. Then it opens a core of the same sizes on the bytes that are
-/// left, in the mode, with what is lent second. `Memory`; `Config` where the settings don't go together; `OutOfRange` where
-/// the sizes' product passes the type's end; `SequenceEnd` where what was found has the last sequence; `Recover` where the
-/// blocks can't be read, which memory has no cause for.
+/// Opens a core over zeroed memory, of which nothing is read, and runs the moves over it with what is lent first. Then
+/// stops: the core is gone, and what was issued and not done stays undone. Then opens a core of the same sizes in the mode
+/// on the bytes that are left, with what is lent second. Errors: `Memory`; `Config` if the settings don't go together;
+/// `OutOfRange` if the product of the sizes passes the type's end; `SequenceEnd` if what was found has the last sequence;
+/// `Recover` if the blocks can't be read, for which memory gives no cause.
 ///
-/// Where the run's events went well, its bytes have no stray index, and blocks are read, the core has each address that the
-/// run's index had, or a newer record of its hash, unless its block was being written; each of them where no flush was under
-/// way; and what it has again was newest at the stop. The events went well where no access failed, no reply is `Failed`, and
-/// no verdict of a reply admits an entry for reinsertion: with reclaims too.
+/// The next claims hold if the run's events went well, its bytes have no stray index, and blocks are read. The new core has
+/// each address that the run's index had, or a newer record of its hash, unless the block of the address was being written.
+/// If no flush was under way, the new core has each of these addresses. What it has again was newest at the stop.
+///
+/// The run's events went well if no access failed, no reply is `Failed`, and no verdict of a reply admits an entry for
+/// reinsertion. This is also true of runs with reclaims.
 pub fn run_and_reopen<K, V, P, A, E, C>(
     alloc: A,
     first: &mut Env<E, C>,

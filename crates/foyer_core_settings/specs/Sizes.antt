@@ -8,8 +8,8 @@ use Rattle.foyer_core_settings.specs.declared.settings.Settings.{Settings}
 abbrev pub sizes_in : Settings → Sizes
 sizes_in s = record { block = s.block_size; index = s.blob_index_size }
 
--- the shards of an index where none are given: the least power of two, from 64 up, that leaves at most 512 pages of the capacity
--- to each
+-- how many shards an index has if no number is given: the least power of two, from 64 up, that leaves at most 512 pages of the
+-- capacity to each shard
 abbrev pub IsDefaultShardCount : ℕ → ℕ → ℕ → Type 0
 IsDefaultShardCount blocks block_size shards =
     IsNextPowerOfTwo (max (div_ceil (min (blocks * block_size) (2 ^ 64 - 1)) (512 * 4096)) 64) shards

@@ -5,32 +5,32 @@ ghost use Rattle.foyer_core_settings.specs.Sizes.{AreValid, IsDefaultShardCount,
 use foyer_device_page::error::{Error, Result};
 use foyer_device_page::io::bytes::PAGE;
 
-/// The bytes of a blob index where none are given.
+/// The bytes of a blob index if none are given.
 pub const DEFAULT_BLOB_INDEX_SIZE: usize = PAGE;
 
-/// The least shards of the index where none are given.
+/// The least number of shards of the index if no number is given.
 pub const MIN_DEFAULT_INDEXER_SHARDS: usize = 64;
 
-/// The bytes of the capacity for each of which the index has a shard where none are given: 512 pages. So an insertion, which
-/// moves what stands after it in its shard, moves at most 24 KiB where each record takes a page.
+/// If no number of shards is given, the index has a shard for each so many bytes of the capacity: 512 pages. An insertion
+/// moves what stands after it in its shard. So it moves at most 24 KiB if each record takes a page.
 pub const DEFAULT_SHARD_CAPACITY: usize = 512 * PAGE;
 
-/// The flushers where none are given.
+/// The number of flushers if none is given.
 pub const DEFAULT_FLUSHERS: u32 = 1;
 
-/// The bytes that may be queued where none are given: 16 MiB.
+/// The bytes that may be queued if no number is given: 16 MiB.
 pub const DEFAULT_SUBMIT_QUEUE_SIZE_THRESHOLD: usize = 16 * 1024 * 1024;
 
-/// The bytes of all flushers' buffers together where none are given: 16 MiB.
+/// The bytes of all flushers' buffers together if no number is given: 16 MiB.
 pub const DEFAULT_BUFFER_POOL_SIZE: usize = 16 * 1024 * 1024;
 
-/// The reclaims that may run at a time where none are given.
+/// The number of reclaims that may run at a time if none is given.
 pub const DEFAULT_RECLAIMERS: u32 = 1;
 
-/// The clean blocks below which a reclaim may begin where none are given.
+/// The number of clean blocks below which a reclaim may begin, if none is given.
 pub const DEFAULT_CLEAN_BLOCK_THRESHOLD: usize = 1;
 
-/// Whether deletes are logged where nothing is said.
+/// Whether deletes are logged if nothing is said.
 pub const DEFAULT_TOMBSTONE_LOG: bool = false;
 
 /// The greatest block: offsets in a block have 32 bits.
@@ -49,20 +49,21 @@ pub struct Settings {
     pub flushers: u32,
     /// Into how many shards the index is divided.
     pub indexer_shards: usize,
-    /// A piece isn't taken, and its hash is deleted, where the sizes of those queued sum to more than this, in bytes.
+    /// The limit of the sum of the queued pieces' sizes, in bytes. If the sum is more, a piece isn't taken, and its hash is
+    /// deleted.
     pub submit_queue_size_threshold: usize,
     /// The bytes of all flushers' buffers together, of which each has an equal share of whole pages.
     pub buffer_pool_size: usize,
     /// How many reclaims may run at a time.
     pub reclaimers: u32,
-    /// A reclaim may begin where fewer blocks than this are clean, and also where a flusher waits for one.
+    /// A reclaim may begin if fewer blocks than this are clean. It may also begin if a flusher waits for a block.
     pub clean_block_threshold: usize,
     /// Whether each batch ends only once the log of deletes has answered for its marks.
     pub tombstone_log: bool,
 }
 
-/// The shards of the index where none are given: the least power of two, from `MIN_DEFAULT_INDEXER_SHARDS` up, that leaves at
-/// most `DEFAULT_SHARD_CAPACITY` bytes of the capacity to each.
+/// Gives how many shards the index has if no number is given: the least power of two, from `MIN_DEFAULT_INDEXER_SHARDS` up,
+/// that leaves at most `DEFAULT_SHARD_CAPACITY` bytes of the capacity to each shard.
 pub fn default_indexer_shards(blocks: u32, block_size: usize) -> usize
     ensures { IsDefaultShardCount blocks block_size result }
 {
@@ -95,15 +96,15 @@ impl Settings {
         }
     }
 
-    /// The same sizes, where so many reclaims may run at a time. Default: `DEFAULT_RECLAIMERS`.
+    /// Gives the same sizes, except that so many reclaims may run at a time. Default: `DEFAULT_RECLAIMERS`.
     pub fn with_reclaimers(self, reclaimers: u32) -> Settings
         ensures { result ≡ record self { reclaimers = reclaimers } }
     {
         Settings { reclaimers, ..self }
     }
 
-    /// The same sizes, where a reclaim may begin below so many clean blocks; with 0 none begins but for a flusher that waits.
-    /// Default: `DEFAULT_CLEAN_BLOCK_THRESHOLD`.
+    /// Gives the same sizes, except that a reclaim may begin below so many clean blocks. With 0, a reclaim only begins for a
+    /// flusher that waits. Default: `DEFAULT_CLEAN_BLOCK_THRESHOLD`.
     pub fn with_clean_block_threshold(self, clean_block_threshold: usize) -> Settings
         ensures { result ≡ record self { clean_block_threshold = clean_block_threshold } }
     {
@@ -133,9 +134,10 @@ impl Settings {
         self.buffer_pool_size / self.flushers as usize / PAGE * PAGE
     }
 
-    /// `Config` where the sizes don't go together: no flusher, no shard, a block that isn't whole pages, or is larger
-    /// than an offset can say, or has no room behind its first index, fewer blocks than flushers, a pool that has no
-    /// page for each flusher, no reclaimer, or 2^32 flushers and reclaimers together.
+    /// Says whether the sizes go together. Error: `Config` if they don't. They don't if there is no flusher, no shard or no
+    /// reclaimer, if there are fewer blocks than flushers, or if flushers and reclaimers together are 2^32 or more. They
+    /// don't if a block or a blob index isn't whole pages, if a blob index has no page, if a block is larger than an offset
+    /// can say, or if it has no room behind its first index. They don't if the pool has no page for each flusher.
     pub fn check(&self) -> Result<()>
         ensures sound { IsOk result ↔ AreValid self.now }
         ensures refused { IsOkUnless result Error.Config }

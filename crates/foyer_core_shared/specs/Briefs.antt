@@ -24,7 +24,7 @@ abbrev pub outcome_of : Result (Unit {0}) Error → Result (Unit {0}) ErrorKind
 outcome_of (Ok done) = Ok tt
 outcome_of (Err e) = Err (kind_of e)
 
--- how many entries have a verdict, where an index was read
+-- how many entries have a verdict, if an index was read
 abbrev pub listed_in : {A : Type 0} → Option (Vec Bool A) → Option ℕ
 listed_in None = None
 listed_in (Some verdicts) = Some (vec_len verdicts)

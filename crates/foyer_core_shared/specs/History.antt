@@ -48,7 +48,8 @@ pub record BeginAlike {K V P A : Type 0} (m : Meaning K V P) (run longer : List 
   pub marks : after.marks ≡ before.marks
   pub found : after.found ≡ before.found
 
--- The empty history begins with this very opening: its settings, its marks, and what its bytes gave where they are seen.
+-- The empty history begins with this very opening. It has the opening's settings and marks. If the opening's bytes are
+-- seen, it has what they gave.
 pub record BeginsWith {K V P A : Type 0} (m : Meaning K V P) (settings : Settings) (bytes : ℕ → ℕ → ℕ) (surely_has : ℕ → ℕ → ℕ → Type 0) (mode : RecoverMode) (marks : List (ℕ × ℕ)) (is_seen : Type 0) (core : Core K V P A) : Type 0 where
   pub first : IsLegal {A = A} m [] core
   pub sizes : first.settings ≡ settings

@@ -23,7 +23,7 @@ kind_in given answer = Other
 abbrev pub kind_of : Brief → StepKind
 kind_of brief = kind_in brief.step brief.reply
 
--- 1 where the kinds are the same
+-- 1 if the kinds are the same, else 0
 abbrev pub one_if : StepKind → StepKind → ℕ
 one_if Queued Queued = 1
 one_if Dropped Dropped = 1

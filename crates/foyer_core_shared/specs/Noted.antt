@@ -24,7 +24,7 @@ pub record IsNoted {K V P A : Type 0} (m : Meaning K V P) (core : Core K V P A) 
   pub count : calls ≡ tallied (map noted run)
   pub kept : AreNotesOf run notes
 
--- one note more, where notes are kept
+-- the notes with one more, if notes are kept
 abbrev pub and_note : Brief → Option (List Brief) → Option (List Brief)
 and_note x notes = option_map (λ xs. xs ++ x ∷ []) notes
 
@@ -39,6 +39,7 @@ pub record NotedState (K V P A : Type 0) : Type 0 where
   pub notes : Option (List Brief)
   pub calls : Counts
 
--- What holds of it whenever nobody is at a step: there is such a history, and notes are kept just where they are to be.
+-- This holds of a core and its notes whenever nobody is at a step. There is such a history, and notes are kept exactly if they
+-- are to be.
 abbrev pub IsNotedCore : {K V P A : Type 0} → Bool → Meaning K V P → Core K V P A → Option (List Brief) → Counts → Type 0
 IsNotedCore keeps m core notes calls = ∥ IsNoted m core notes calls ∥₁ × (is_some notes ≡ keeps)

@@ -8,21 +8,21 @@ use Rattle.foyer_core_steps.specs.declared.step.Step.TheVariants as step
 use Rattle.foyer_device_page.specs.declared.error.ErrorKind.{ErrorKind}
 use Rattle.foyer_device_page.specs.declared.error.ErrorKind.TheVariants as kind
 
--- A put or a delete is refused where the core is closed, memory is refused, or no sequence or step is left; and no step that a worker
--- or a wait asks is refused for another cause.
+-- A put or a delete is refused if the core is closed, if memory is refused, or if no sequence or step is left. A step that a
+-- worker or a wait asks is refused for no other cause.
 abbrev pub is_draw_refusal : ErrorKind → Bool
 is_draw_refusal kind.Closed = true
 is_draw_refusal kind.Memory = true
 is_draw_refusal kind.SequenceEnd = true
 is_draw_refusal other = false
 
--- A question or a look-up is refused where no step is left.
+-- A question or a look-up is refused if no step is left.
 abbrev pub is_question_refusal : ErrorKind → Bool
 is_question_refusal kind.SequenceEnd = true
 is_question_refusal other = false
 
--- The end of a load is refused where the read failed, which alone is Io; where it went well memory is refused, or the entry isn't
--- readable; or no step is left.
+-- The end of a load is refused if the read failed. Only this refusal is Io. If the read went well, the end is refused if memory
+-- is refused or the entry isn't readable. It is also refused if no step is left.
 abbrev pub is_end_refusal : (has_read : Bool) → ErrorKind → Bool
 is_end_refusal has_read kind.Io = not has_read
 is_end_refusal has_read kind.Memory = has_read
@@ -57,7 +57,7 @@ module _ {K V P A : Type 0} where
   is_look_up_reply throttled (reply.Refused kind back) = is_question_refusal kind
   is_look_up_reply throttled other = false
 
-  -- an entry and a miss end a load only where the read went well, and nothing ends it as throttled
+  -- an entry and a miss end a load only if the read went well, and nothing ends it as throttled
   abbrev pub is_end_reply : (has_read : Bool) → Reply K V P A → Bool
   is_end_reply has_read reply.Miss = has_read
   is_end_reply has_read (reply.Entry key value age) = has_read

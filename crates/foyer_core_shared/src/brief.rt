@@ -23,7 +23,7 @@ fn len_of<A: Allocator>(outcome: &Result<Vec<u8, A>, Error>) -> Result<usize, Er
     }
 }
 
-// The kind of a write's fault, where it failed.
+// Gives the kind of a write's fault, if the write failed.
 fn outcome_of(outcome: &Result<(), Error>) -> Result<(), ErrorKind>
     ensures { result ≡ outcome_of outcome.now }
 {
@@ -33,7 +33,7 @@ fn outcome_of(outcome: &Result<(), Error>) -> Result<(), ErrorKind>
     }
 }
 
-// How many entries were listed, each with a verdict; none where what was read is no index.
+// Gives how many entries were listed, each with a verdict, and none if what was read is no index.
 fn listed_in<A: Allocator>(verdicts: &Option<Vec<bool, A>>) -> Option<usize>
     ensures { result ≡ listed_in verdicts.now }
 {

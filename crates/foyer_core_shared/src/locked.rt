@@ -140,8 +140,8 @@ impl<L: Kinds> Session<L> {
     }
 }
 
-/// A core, the book of the steps that were made of it, by their kinds, and, where `N` says so, their notes. Some history of such
-/// steps leads from an opening to the core.
+/// A core and the book that counts the steps made of it, by their kinds. If `N` says so, the steps' notes are there too. Some
+/// history of such steps leads from an opening to the core.
 pub struct NotedCore<L, K, V, P, A, N>
 where
     L: Kinds,
@@ -243,7 +243,7 @@ where
     }
 }
 
-// No note yet, where notes are kept.
+// Begins the notes without any, if notes are kept.
 fn first_notes<A: Allocator + Clone>(alloc: &A, keeps_notes: bool) -> Result<Option<Notes<A>>>
     ensures none { IfOk result (λ notes. kept_notes notes ≡ notes_at_first keeps_notes) }
     ensures refused { IsOkUnless result Memory }
@@ -255,7 +255,7 @@ fn first_notes<A: Allocator + Clone>(alloc: &A, keeps_notes: bool) -> Result<Opt
     Ok(Some(notes))
 }
 
-// Makes room for one note more, where notes are kept.
+// Makes room for one more note, if notes are kept.
 fn reserve<A: Allocator + Clone>(notes: &mut Option<Notes<A>>) -> Result<()>
     ensures room { OnOk result (HasRoom notes.new) }
     ensures same { kept_notes notes.new ≡ kept_notes notes.old }
@@ -267,7 +267,7 @@ fn reserve<A: Allocator + Clone>(notes: &mut Option<Notes<A>>) -> Result<()>
     }
 }
 
-// Keeps one note more, where notes are kept.
+// Keeps one more note, if notes are kept.
 fn note<A: Allocator + Clone>(notes: &mut Option<Notes<A>>, brief: Brief)
     requires { HasRoom notes.old }
     ensures { kept_notes notes.new ≡ and_note brief (kept_notes notes.old) }
@@ -310,8 +310,8 @@ where
     ghost use Rattle.foyer_core_shared.specs.History.{BeginAlike, BeginsWith, IsLegal, Made};
     ghost use Rattle.foyer_core_shared.specs.Replies.{may_reply};
 
-    /// Opens a core as `Core::open_with` does, with the session that has all parts. Where `N` says so the notes of all steps are
-    /// kept, which take memory as long as the core is there. `Memory` also where an allocator's clone is refused.
+    /// Opens a core as `Core::open_with` does, with the session that has all parts. If `N` says so, the notes of all steps are
+    /// kept. They take memory as long as the core is there. `Memory` is also answered if an allocator's clone is refused.
     pub fn open<D: Disk>(
         alloc: A,
         mut env: Env<E, C>,
@@ -385,10 +385,12 @@ where
         self.mode
     }
 
-    /// Applies a step as `Core::apply` does, notes it, and counts it with the session's shares, as one of its kind; the session's
-    /// newest brief is then that of the step and of this very reply. A history that led to the core goes on by this step, and keeps
-    /// the opening that it began with. A filter that is asked is shown `io`. Where notes are kept
-    /// and memory for one is refused, the step comes back and nothing changed; else no step is refused so.
+    /// Applies a step as `Core::apply` does, notes it, and counts it with the session's shares, as one of its kind. The session's
+    /// newest brief is then that of the step and of this very reply. A history that led to the core goes on by this step, and
+    /// keeps the opening that it began with. A filter that is asked is shown `io`.
+    ///
+    /// If notes are kept and memory for one is refused, the step comes back and nothing changed. No step comes back for another
+    /// cause.
     pub fn step(
         &mut self,
         session: &mut Session<L>,
@@ -460,14 +462,15 @@ where
         &self.noted.core
     }
 
-    /// The notes of all steps, where they are kept.
+    /// Gives the notes of all steps, if notes are kept.
     pub fn notes(&self) -> Option<&Notes<A>>
         ensures { option_map (λ n. all_of n.now.full.items n.now.last.items) result ≡ self.now.noted.notes }
     {
         self.noted.notes.as_ref()
     }
 
-    /// Whoever has all parts knows how many steps of each kind were made; so many notes of it there are, where notes are kept.
+    /// Shows that whoever has all parts knows how many steps of each kind were made. If notes are kept, there are so many notes
+    /// of the kind.
     pub fn audit(&mut self, all: &mut Session<L>)
         requires { all.old.shares.parts ≡ L.all }
         ensures count { self.new.noted.calls ≡ all.new.shares.amounts }

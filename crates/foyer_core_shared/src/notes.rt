@@ -1,4 +1,4 @@
-//! The notes of all steps, where they are kept.
+//! The notes of all steps, if notes are kept.
 ghost use Rattle.std.specs.Prelude.{◌≡◌, ◌<◌, Bool, true, false, [], ◌∷◌, ◌++◌, IfOk, OnOk, IsOkUnless, slice_get, vec_len, vec_capacity};
 ghost use Rattle.foyer_device_page.specs.declared.error.Error.TheVariants.{Memory};
 ghost use Rattle.foyer_core_shared.specs.Chunks.{all_of};
@@ -68,7 +68,7 @@ impl<A: Allocator> Drop for Notes<A> {
 }
 
 impl<A: Allocator + Clone> Notes<A> {
-    /// None. `Memory`, where the allocator's clone is refused.
+    /// Begins without a note. Error: `Memory` if the allocator's clone is refused.
     pub fn new(alloc: A) -> Result<Notes<A>>
         ensures none { IfOk result (λ notes. all_of notes.full.items notes.last.items ≡ []) }
         ensures refused { IsOkUnless result Memory }

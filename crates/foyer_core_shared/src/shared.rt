@@ -88,9 +88,9 @@ where
         self.mode
     }
 
-    /// One step, under the lock; a filter that is asked is shown `io`. The session's newest brief is then that of this step and of
-    /// this very reply. But where notes are kept and memory for this one is refused, the reply is `Refused(Memory, step)`, and
-    /// nothing is noted.
+    /// Makes one step, under the lock. A filter that is asked is shown `io`. The session's newest brief is then that of this step
+    /// and of this very reply. There is one exception: if notes are kept and memory for this note is refused, the reply is
+    /// `Refused(Memory, step)`, and nothing is noted.
     pub fn step(
         &self,
         rt: &impl Wait,

@@ -119,8 +119,9 @@ abbrev pub Idling : {K V P A : Type 0} → Step K V P A → Reply K V P A → Co
 Idling given (reply.Answer answer) old = Asks given answer old
 Idling given answer old = DescribesNothing answer
 
--- A reclaim begins where it may, of the first of the answers of the pickers that were lent that is an evictable block, else
--- of any such block; the answers up to it, and what these pickers put on probation, are those of the reply.
+-- A reclaim only begins if it may. It begins with the first of the lent pickers' answers that is an evictable block. If no
+-- answer is one, it begins with any evictable block. The reply has the answers up to the pick, and the blocks that these
+-- pickers put on probation.
 abbrev pub IsPicked : {K V P A Q : Type 0} → (Q → Info → Option ℕ) → (Q → Info → List ℕ) → List Q → Reply K V P A → Core K V P A → Core K V P A → Type 0
 IsPicked says marks pickers (reply.Picked block answers probation) old new =
     (sets : BlockSets) → Stands old.manager sets
@@ -136,7 +137,8 @@ AnswersPair is_key is_value key_of value_of given (reply.Entry key value age) =
     BringsPair is_key is_value (key_of key) (value_of value) given
 AnswersPair is_key is_value key_of value_of given answer = DescribesNothing answer
 
--- a step may be answered Failed: where the write that it reports succeeded, only if the index has to grow for the records
+-- a step may be answered Failed; if the write that it reports succeeded, this is only so if the index has to grow for the
+-- records
 abbrev pub MayFail : {K V P A : Type 0} → Step K V P A → Core K V P A → Type 0
 MayFail (step.FlushWrote flusher outcome) old =
     went_well outcome ≡ true → IsSomeAnd (slice_get old.flushers.items flusher) (MustGrowFor old.index)
@@ -149,7 +151,7 @@ spare_of outcome (reply.Refused kind back) = None
 spare_of (Ok bytes) answer = Some bytes
 spare_of (Err e) answer = None
 
--- what a load brought may be refused for memory: where decoding its record's value or key takes some, or a clone of the
+-- what a load brought may be refused for memory if decoding its record's value or key takes some, or if a clone of the
 -- allocator may be refused
 abbrev pub MayWantMemory : {A : Type 0} → (List ℕ → Type 0) → (List ℕ → Type 0) → Type 0 → Ticket → Result (Vec ℕ A) Error → Type 0
 MayWantMemory key_takes value_takes is_sure ticket (Ok bytes) =

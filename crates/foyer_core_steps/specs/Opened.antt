@@ -42,8 +42,8 @@ pub record IsOpened {K V P A : Type 0} (settings : Settings) (o : Opened) (core 
   pub reclaims : (b : ℕ) → reclaim_at core.reclaims b ≡ None
   pub destroy : core.destroy ≡ destroy.Absent
 
--- What it was opened with lies in the blocks, whatever the disk gave; and where it shows its bytes, it is what these and the
--- marks of deletes, with some failed reads, are defined to give.
+-- What the core was opened with lies in the blocks, whatever the disk gave. If the disk shows its bytes, the core was opened
+-- with what these bytes and the marks of deletes, with some failed reads, are defined to give.
 pub record IsOpenedFrom {K V P A : Type 0} (settings : Settings) (bytes : ℕ → ℕ → ℕ) (surely_has : ℕ → ℕ → ℕ → Type 0) (mode : RecoverMode) (marks : List (ℕ × ℕ)) (is_seen : Type 0) (core : Core K V P A) : Type 0 where
   pub found : Opened
   pub opening : IsOpening (sizes_in settings) settings.blocks marks found

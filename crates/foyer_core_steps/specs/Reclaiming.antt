@@ -71,7 +71,7 @@ first_reclaim b n sizes = record {
   is_forgotten = false;
 }
 
--- what is read where a scan is, once no record is
+-- the index at the place of a scan, which is read once no record is
 abbrev pub index_wanted : Option ℕ → Option Wanted
 index_wanted None = None
 index_wanted (Some p) = Some (wanted.Index p)
@@ -115,7 +115,7 @@ chosen (true ∷ vs) (x ∷ xs) = x ∷ chosen vs xs
 chosen (false ∷ vs) (x ∷ xs) = chosen vs xs
 chosen vs xs = []
 
--- and of none where there are no verdicts
+-- the same for verdicts that may be missing: if there are none, nothing is chosen
 abbrev pub chosen_of : Option (List Bool) → List HashedEntryAddress → List HashedEntryAddress
 chosen_of None es = []
 chosen_of (Some vs) es = chosen vs es
@@ -143,7 +143,7 @@ IsVerdictOn may (Some filter) io info verdict =
 abbrev pub HasVerdicts : {Q : Type 0} → (Q → IoState → ℕ → ℕ → StorageFilterResult → Type 0) → Option (List Q) → IoState → List EntryInfo → List Bool → Type 0
 HasVerdicts may filter io infos vs = AllZip (IsVerdictOn may filter io) infos vs
 
--- of an index one on each of its entries, and none where the bytes are no index
+-- an index has one verdict on each of its entries; if the bytes are no index, there are no verdicts
 abbrev pub IsReread : {Q : Type 0} → (Q → IoState → ℕ → ℕ → StorageFilterResult → Type 0) → Option (List Q) → IoState → Option (List EntryInfo) → Option (List Bool) → Type 0
 IsReread may filter io None None = Unit {0}
 IsReread may filter io (Some infos) (Some vs) = HasVerdicts may filter io infos vs
@@ -187,12 +187,12 @@ abbrev pub verdicts_of : {A : Type 0} → Option (Vec Bool A) → List Bool
 verdicts_of None = []
 verdicts_of (Some v) = v.items
 
--- how far the model's is where it reads no record
+-- how far the model's reclaim is if it reads no record
 abbrev pub at_offset : Option ℕ → model_state.Stage
 at_offset None = model_state.AllListed
 at_offset (Some p) = model_state.AtIndex p
 
--- The model's reads these records, and then the index at a place, where one has room there.
+-- The model's reclaim reads these records. Then it reads the index at a place, if an index has room there.
 pub record ReadsRecords (sizes : Sizes) (offset : Option ℕ) (e : HashedEntryAddress) (es : List HashedEntryAddress) (stage : model_state.Stage) : Type 0 where
   pub place : ℕ
   pub is : stage ≡ model_state.AtRecord e.hash (address_of e.address) (map listed_of es) place
@@ -221,7 +221,7 @@ pub record IsReclaimAs (s : Settings) (block filling : ℕ) (r : Reclaiming) (it
   pub requeued : (p : ℕ × model_record.Address) → is_listed p it.requeued ≡ is_listed p (map listed_of r.requeued)
   pub count : length it.requeued ≡ length r.requeued
 
--- one runs exactly where the block is reclaimed
+-- a reclaim runs exactly if the block is reclaimed
 abbrev pub AreReclaimAs : Settings → (block : ℕ) → model_state.BlockSet → (filling : ℕ) → Option Reclaiming → Option model_state.Reclaim → Type 0
 AreReclaimAs s b place filling None None = is_reclaimed place ≡ false
 AreReclaimAs s b place filling (Some r) (Some it) = (is_reclaimed place ≡ true) × IsReclaimAs s b filling r it

@@ -30,7 +30,7 @@ IsHandedBack (reply.NotNow back) = Unit {0}
 IsHandedBack (reply.Refused why back) = Unit {0}
 IsHandedBack answer = ⊥
 
--- The relation of the model, but for the count of steps.
+-- The relation of the model, except for the count of steps.
 abbrev pub FollowsUncounted : {C : Type 0} → Rules C → Splitting C → State C → model_step.Step C → model_reply.Reply C → State C → Type 0
 FollowsUncounted rules Splits old given (model_reply.NotNow back) new = (back ≡ given) × IsOutOfTurn rules Splits old given × (new ≡ old)
 FollowsUncounted rules Splits old given (model_reply.Refused kind back) new = (back ≡ given) × MayRefuse rules Splits old kind given × (new ≡ old)
@@ -40,7 +40,7 @@ FollowsUncounted rules Splits old given answer new = InTurn rules old given × C
 abbrev pub missed : State Content → Ticket → State Content
 missed it ticket = record it { index = put it.index ticket.hash (without (address_of ticket.address) (it.index ticket.hash)) }
 
--- what a step, but for its count, makes of a state of the model that the core stands for
+-- what a step, except for its count, makes of a state of the model that the core stands for
 pub record IsRefinedUncounted {K V P A : Type 0} (m : Meaning K V P) (s : Settings) (sound : AreValid s) (given : Step K V P A) (answer : Reply K V P A) (new : Core K V P A) (old : State Content) : Type 0 where
   pub after : State Content
   pub it : model_reply.Reply Content

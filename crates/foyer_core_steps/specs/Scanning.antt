@@ -1,4 +1,4 @@
--- What a reclaim's step answers where it goes on.
+-- What a reclaim's step answers if the reclaim goes on.
 use Rattle.std.specs.Prelude.{◌≡◌, ℕ, Bool, List, Option, Some, None, Result, Ok, Err}
 use Rattle.std.specs.declared.vec.Vec.{Vec}
 use Rattle.foyer_device_page.specs.declared.error.Error.{Error}

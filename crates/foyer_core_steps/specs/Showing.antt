@@ -16,7 +16,7 @@ use Rattle.foyer_core_steps.specs.declared.step.Step.TheVariants as step
 abbrev pub left_at : {K V P A : Type 0} → Core K V P A → ℕ → Option ℕ
 left_at core f = option_and_then (λ φ. left_by φ.batch φ.own) (slice_get core.flushers.items f)
 
--- and where its batch fails
+-- the block that this flusher leaves if its batch fails
 abbrev pub own_at : {K V P A : Type 0} → Core K V P A → ℕ → Option ℕ
 own_at core f = option_and_then (λ φ. φ.own) (slice_get core.flushers.items f)
 

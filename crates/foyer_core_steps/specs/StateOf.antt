@@ -28,7 +28,7 @@ pub record IsSizedAs (s : Settings) (queued next : ℕ) (its : ℕ → model_sta
   pub sum : queued ≡ size_of_all s.flushers its
   pub bound : queued ≤ next * 2 ^ 64
 
--- a state of the model that the core stands for, where its sizes are these
+-- a state of the model that the core stands for, if its sizes are these
 pub record IsStateOf {K V P A : Type 0} (m : Meaning K V P) (s : Settings) (core : Core K V P A) (it : model_state.State Content) : Type 0 where
   pub sizes : core.settings ≡ s
   pub index : IsIndexedAs s core.index.slots it.index

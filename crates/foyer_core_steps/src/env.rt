@@ -18,10 +18,10 @@ use std::alloc::Global;
 use std::mem;
 use std::time::Duration;
 
-/// What callers lend the core at its opening and at each step: the pickers, which are asked in their order what is
-/// reclaimed next, the generator that chooses where none of them picks, and the filter of which records of a reclaimed block
-/// are written again. Pickers and conditions are those of this project, or of the caller's own types, boxed ones among them
-/// (`foyer_block_manager`'s `AnyPicker`, `foyer_policy_filter`'s `AnyCondition`).
+/// What callers lend the core at its opening and at each step. The pickers are asked in their order what is reclaimed next.
+/// The generator chooses if none of them picks. The filter says which records of a reclaimed block are written again. Pickers
+/// and conditions are those of this project, or the caller's own types. Boxed ones are among these (`foyer_block_manager`'s
+/// `AnyPicker`, `foyer_policy_filter`'s `AnyCondition`).
 pub struct Env<E: EvictionPicker = BuiltInPicker, C: StorageFilterCondition = BuiltInCondition> {
     pub(crate) pickers: Vec<E>,
     // The ids that pickers learn of, or put on probation.
@@ -46,7 +46,8 @@ impl<E: EvictionPicker, C: StorageFilterCondition> Drop for Env<E, C> {
     }
 }
 
-/// Of a device that did nothing, and where nothing is to be waited for: what a filter is shown that nobody showed another.
+/// Gives the state of a device that did nothing and for which nothing is to be waited for. A filter is shown this state if
+/// nobody showed it another.
 pub fn no_io() -> IoState
     ensures { IsNoIo result }
 {
@@ -61,8 +62,8 @@ pub fn no_io() -> IoState
 }
 
 impl Env<BuiltInPicker, BuiltInCondition> {
-    /// The pickers where none are given: by invalid bytes from 8/10 of a block on, then by age with a tenth of the
-    /// blocks clean or on probation. `Memory` alone.
+    /// Lends the pickers that there are if none are given. The first picks by invalid bytes, from 8/10 of a block on. The
+    /// second picks by age, with a tenth of the blocks clean or on probation. Error: `Memory` alone.
     pub fn with_default_pickers(alloc: Global, seed: u64) -> Result<Env>
         ensures pickers { IfOk result (λ env. env.pickers.items
             ≡ picker.InvalidRatio (record { num = 8; den = 10; block_size = 0 })

@@ -38,7 +38,7 @@ fn load_end<K, V, P, A: Allocator>(ticket: Ticket, outcome: Result<Vec<u8, A>>) 
     }
 }
 
-// What the first bytes of a read are as a record of its ticket. Nothing is looked at where the read isn't whole.
+// Gives what the first bytes of a read are as a record of its ticket. Looks at nothing if the read isn't whole.
 fn judge_bytes<K: Code<A> + Drop, V: Code<A> + Drop, A: Allocator + Clone>(
     alloc: &A,
     ticket: &Ticket,
@@ -259,8 +259,9 @@ where
     A: Allocator + Clone,
 {
     #[tactic(auto, using(crate::proofs::Describing::issues_counted, crate::proofs::Describing::issues_pair))]
-    /// Applies the `LoadEnd` of what was judged as `apply` does, and gives the buffer of the read back beside the reply, for the
-    /// next read: unchanged, with all that is in it. None where the read failed, or where the step that is handed back has it.
+    /// Applies the `LoadEnd` of what was judged as `apply` does. Gives the buffer of the read back beside the reply, for the
+    /// next read: unchanged, with all that is in it. Gives no buffer if the read failed, or if the step that is handed back has
+    /// it.
     pub fn apply_judged<E: EvictionPicker, C: StorageFilterCondition>(
         &mut self,
         _env: &mut Env<E, C>,

@@ -31,7 +31,7 @@ use foyer_policy_filter::StorageFilterCondition;
 use std::alloc::Allocator;
 use std::collections::HashMap;
 
-/// The recovery of a core's blocks in a mode. `Config` where the settings don't go together.
+/// Gives the recovery of a core's blocks in a mode. Error: `Config` if the settings don't go together.
 pub fn runner_of(settings: &Settings, mode: RecoverMode) -> Result<RecoverRunner>
     ensures runner { IfOk result (λ r. r ≡ record {
       mode = mode;
@@ -105,15 +105,15 @@ fn place_blocks<A: Allocator + Clone, E: EvictionPicker, C: StorageFilterConditi
 impl<K: Drop, V: Drop, P: Drop, A: Allocator + Clone> Core<K, V, P, A> {
     ghost use Rattle.foyer_block_recover.specs.declared.block.recover.RecoverMode.TheVariants as recover_mode;
 
-    /// Opens a core with what is found in the disk's blocks and with the marks of deletes: the newest entry of each hash,
-    /// unless a mark of the hash is as new; the sequence behind the greatest of entries and marks; and as clean blocks
-    /// those that keep nothing, in the order of their ids. In `None` no block is read, and all are clean; marks count in
-    /// every mode. The pickers learn of the blocks. Nothing is written. A read of a range that surely lies in the disk failed
-    /// only where the device did: where its count of faults stayed, each place of the blocks was read.
+    /// Opens a core with what is found in the disk's blocks and with the marks of deletes. The core has the newest entry of each
+    /// hash, unless a mark of the hash is as new. Its next sequence is the one behind the greatest of entries and marks. Its
+    /// clean blocks are those that keep nothing, in the order of their ids. In `None` no block is read, and all blocks are clean.
+    /// Marks count in every mode. The pickers learn of the blocks. Nothing is written. A read of a range that surely lies in the
+    /// disk failed only if the device failed. If the disk's count of faults stayed, each such place of the blocks was read.
     ///
-    /// `Config` where the settings don't go together, before anything is read; `Recover` where a read failed in
-    /// `Strict`; `SequenceEnd` where what was found, or a mark, has the last sequence; `Memory` at any time. No bytes
-    /// refuse it.
+    /// Errors: `Config` if the settings don't go together, before anything is read; `Recover` if a read failed in `Strict`;
+    /// `SequenceEnd` if what was found, or a mark, has the last sequence; `Memory` at any time. No other bytes make the opening
+    /// fail.
     pub fn open<D: Disk, E: EvictionPicker, C: StorageFilterCondition>(
         alloc: A,
         env: &mut Env<E, C>,

@@ -34,7 +34,7 @@ pub enum Reply<K, V, P, A: Allocator> {
     Throttled,
     /// Read this, and bring it by `LoadEnd`.
     Read(Ticket),
-    /// The entry. Its age is old where its block is on probation.
+    /// The entry. Its age is old if its block is on probation.
     Entry {
         key: K,
         value: V,
@@ -82,8 +82,7 @@ pub enum Reply<K, V, P, A: Allocator> {
         len: usize,
         verdicts: Option<Vec<bool, A>>,
     },
-    /// A reclaimed block's entries are listed. The verdicts are `None` where what was read last is no index, or wasn't
-    /// read.
+    /// A reclaimed block's entries are listed. The verdicts are `None` if what was read last is no index, or wasn't read.
     Listed {
         verdicts: Option<Vec<bool, A>>,
     },

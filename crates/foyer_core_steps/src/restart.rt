@@ -14,10 +14,13 @@ ghost use Rattle.foyer_core_flusher.specs.Settings.{Settings};
 
 use foyer_io_disk::disk::Disk;
 
-/// A core that `Core::open` gave on the bytes that a run of a core left at a stop has in its index each address that the
-/// run's index had, or a newer record of its hash, unless its block was being written; and each of them where no flush was
-/// under way. What it has again is what was newest at the stop. The opening is strict, or no read of an index failed: the
-/// disk surely has each of them, or each surely lies in it and it counts as many faults after the opening as before.
+/// About a core that `Core::open` gave on the bytes that a run of a core left at a stop. Its index has each address that
+/// the run's index had, or a newer record of its hash, unless the block of the address was being written. If no flush was
+/// under way, its index has each of these addresses. What it has again is what was newest at the stop.
+///
+/// This holds if the opening is strict, or if no read of an index failed. No such read failed if the disk surely has each
+/// index. None failed either if each index surely lies in the disk and the disk counts as many faults after the opening as
+/// before.
 pub fn reopening_finds<K, V, P, A, D: Disk>()
     ensures again { (is_key is_value : List ℕ → Bool) (s : Settings) (sound : AreValid s) (w : World Content) (disk after : D)
         (mode : RecoverMode) (core : Core K V P A) (h : ℕ) (a : Address)

@@ -59,7 +59,7 @@ impl<K, V, P, A: Allocator> Core<K, V, P, A> {
         self.settings
     }
 
-    /// Where its memory comes from.
+    /// Gives the allocator from which its memory comes.
     pub fn allocator(&self) -> &A
         ensures { result.now ≡ self.now.alloc }
     {

@@ -85,7 +85,7 @@ pub enum Step<K, V, P, A: Allocator> {
         flusher: u32,
         result: Result<()>,
     },
-    /// Ends the batch; where there is a tombstone log, behind its outcome.
+    /// Ends the batch. If there is a tombstone log, this comes behind the log's outcome.
     FlushEnd {
         flusher: u32,
     },

@@ -22,8 +22,8 @@ pub record Store (C Key : Type 0) : Type 0 where
   pub numbers : ℕ → ℕ  -- by the same, the number of its insertion; 0 before it
   pub back : ℕ → List (ℕ × C)  -- by flusher, the pieces that it gave back and that aren't released, with their sequences
 
--- an event of the world, with the number that an insertion gets where it is one; or the release of the piece that a
--- flusher gave back first
+-- an event of the world, with the number that an insertion gets if the event is one; or the release of the piece
+-- that a flusher gave back first
 pub data StoreEvent (C : Type 0) : Type 0 where
   Happens : WorldEvent C → (number : ℕ) → StoreEvent C
   Releases : (flusher : ℕ) → StoreEvent C

@@ -1,4 +1,4 @@
--- What a look-up and the end of a load are answered where a put is newest, and the told cause where it is missed.
+-- What a look-up and the end of a load are answered if a put is newest, and the told cause if the put is missed.
 use Rattle.std.specs.Prelude.{◌≡◌, ◌≢◌, ◌⊎◌, ℕ, ◌<◌, ◌==◌, Bool, true, false, ◌||◌, List, [], ◌∷◌, ◌++◌, Some, None, Result, Ok, Err}
 use Rattle.std.specs.declared.vec.Vec.{Vec}
 use Rattle.foyer_device_page.specs.declared.error.Error.{Error}
@@ -83,8 +83,9 @@ IsRefusedFor m kind ticket outcome (replies.Refused why back) =
     (kind_of why ≡ Some kind) × (step_of m back ≡ model_step.LoadEnd (ticket_of ticket) (came_of outcome))
 IsRefusedFor m kind ticket outcome reply = ⊥
 
--- what the end of a load is answered, by what was newest: Io where the read failed; the record's content, or Memory; for a broken
--- recovered one a miss; for one that doesn't decode Parse, or Memory; for one that isn't supported Unsupported
+-- what the end of a load is answered, by what was newest: Io if the read failed; the record's content, or Memory, if the record
+-- holds content; a miss if it is a broken recovered one; Parse, or Memory, if it doesn't decode; Unsupported if it isn't
+-- supported
 abbrev pub IsAnswerTo : {K V P A : Type 0} → Meaning K V P → Ticket → Result (Vec ℕ A) Error → Outcome Content → Reply K V P A → Type 0
 IsAnswerTo m ticket (Err e) x answer = IsRefusedFor m Io ticket (Err e) answer
 IsAnswerTo m ticket (Ok bytes) NoRecord answer = answer ≡ replies.Miss
@@ -93,9 +94,9 @@ IsAnswerTo m ticket (Ok bytes) Undecodable answer = IsRefusedFor m Parse ticket 
 IsAnswerTo {K} {V} m ticket (Ok bytes) (Holds c) answer =
     ((key : K) × (value : V) × (age : Age) × (answer ≡ replies.Entry key value age) × (content m key value ≡ c)) ⊎ IsRefusedFor m Memory ticket (Ok bytes) answer
 
--- Of a look-up, whatever threads did before, in whatever run they tell, while fewer than 2^64 - 1 steps counted: where what was newest
--- of its hash was the put of a record that isn't broken, it is read, or was throttled as asked, or the reclaim of its block had begun
--- in the history before.
+-- This holds of a look-up whatever threads did before, in whatever run they tell, while fewer than 2^64 - 1 steps counted. If
+-- what was newest of its hash was the put of a record that isn't broken, there are three cases. The record is read, or the
+-- look-up was throttled as asked, or the reclaim of the record's block had begun in the history before.
 abbrev pub LooksUpToldNewest : (K V P A D : Type 0) → Type 0
 LooksUpToldNewest K V P A D =
     (m : Meaning K V P) (s : Settings) (sound : AreValid s) (byte_at : D → ℕ → ℕ → ℕ) (before after : List (Told K V P A D)) (looked : Told K V P A D)
@@ -106,9 +107,9 @@ LooksUpToldNewest K V P A D =
     × ((n : ℕ) (x : Outcome Content) → newest h v.history ≡ Some (Put h n x) → x ≢ NoRecord
     → IsFound h n throttled answer ⊎ IsTaken m s sound byte_at before v h (Put h n x))
 
--- Of a look-up, its own read and its end, the same: where what was newest of its hash when it looked was the put of a record, the
--- answer is as `IsAnswerTo` says of that record, or the reclaim of its block had begun before the look-up, or that or a destroy
--- began between the look-up and the end.
+-- The same holds of a look-up, its own read and its end. If what was newest of its hash when it looked was the put of a record,
+-- there are three cases. The answer is as `IsAnswerTo` says of that record; or the reclaim of the record's block had begun before
+-- the look-up; or that reclaim or a destroy began between the look-up and the end.
 abbrev pub EndsAsToldNewest : (K V P A D : Type 0) → Type 0
 EndsAsToldNewest K V P A D =
     (m : Meaning K V P) (s : Settings) (sound : AreValid s) (byte_at : D → ℕ → ℕ → ℕ) (before mid late : List (Told K V P A D)) (looked read ended : Told K V P A D)

@@ -72,13 +72,14 @@ takes (told.Scans block outcome) k = (k == disk_right) || (k == scan_right block
 takes (told.Writes flusher is_ok disk) k = (k == disk_right) || (k == writes_right flusher)
 takes (told.Cleans block is_ok disk) k = (k == disk_right) || (k == clean_right block)
 
--- Where no event took the right of a ticket's number, none is a read of it; where none took the core's right, all are accesses.
+-- If no event took the right of a ticket's number, no event is a read of that ticket. If no event took the core's right, all
+-- events are accesses.
 pub record RightsExclude {K V P A D : Type 0} (es : List (Told K V P A D)) : Type 0 where
   pub others : (n : ℕ) → IsUntouched takes (ticket_right n) es → AreOthers n es
   pub accesses : IsUntouched takes core_right es → AreAccesses es
 
--- From one world to another by these events: what a right is for stays, where no event took the right. Of a read, it stays where it
--- isn't under way; of a clean, where it was issued or is done.
+-- These events lead from one world to another. What a right is for stays if no event took the right. A read only stays so if it
+-- isn't under way, and a clean only if it was issued or is done.
 pub record RightsKeep {K V P A D : Type 0} (w : World Content) (es : List (Told K V P A D)) (u : World Content) : Type 0 where
   pub core : IsUntouched takes core_right es → u.core ≡ w.core
   pub history : IsUntouched takes core_right es → u.history ≡ w.history

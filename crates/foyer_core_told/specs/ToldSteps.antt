@@ -46,8 +46,8 @@ abbrev pub IsFedTo : {K V P A D : Type 0} → Meaning K V P → (s : Settings) �
 IsFedTo m s sound u (told.Steps step reply core) = IsFed (machine m s sound) (layout s) (IsEncoded m.is_key m.is_value) u (step_of m step.value)
 IsFedTo m s sound u event = ⊥
 
--- A core stood for what a history tells, and since then accesses alone were told. Then its next step goes on with whatever run is
--- told, where what the step brings has come in each.
+-- A core stood for what a history tells, and since then only accesses were told. Then the core's next step goes on with whatever
+-- run is told, if what the step brings has come in each such run.
 abbrev pub StepGoesOn : (K V P A D : Type 0) → Type 0
 StepGoesOn K V P A D =
     (m : Meaning K V P) (s : Settings) (sound : AreValid s) (byte_at : D → ℕ → ℕ → ℕ) (seen since : List (Told K V P A D)) (old : Core K V P A) (e : Told K V P A D)

@@ -11,6 +11,7 @@ abbrev pub part : Option ℕ → ℕ → Option ℕ
 part (Some n) room = if nat_le n room then Some n else None
 part None room = Some room
 
--- devices of so many bytes and so many files together: the bytes, saturating, where the files can be numbered
+-- what devices of so many bytes and so many files have together: the bytes, saturating, if the files can be
+-- numbered
 abbrev pub combined_capacity : ℕ → ℕ → Option ℕ
 combined_capacity room files = if nat_le files (2 ^ 32) then Some (min room (2 ^ 64 - 1)) else None

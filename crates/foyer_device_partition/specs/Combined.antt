@@ -14,7 +14,7 @@ pub record Combined (D : Type 0) : Type 0 where
   pub limits : Throttle
   pub since : ℕ
 
--- where the files of the devices before have so many numbers
+-- the same extent, if the files of the devices before have so many numbers
 abbrev pub shift : ℕ → Extent → Extent
 shift base e = record { file = base + e.file; start = e.start; len = e.len }
 

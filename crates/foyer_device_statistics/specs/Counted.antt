@@ -25,7 +25,7 @@ total f (v ∷ vs) = f v + total f vs
 abbrev pub sum_of : ℕ → List View → ℕ
 sum_of i views = total (λ v. at i v.recorded) views
 
--- a seat has all four counters, has seen no more than was recorded, and has recorded nothing where it has no part
+-- a seat has all four counters, has seen no more than was recorded, and has recorded nothing if it has no part
 abbrev pub Fits : List View → View → Type 0
 Fits views v =
     (length v.recorded ≡ 4) × (length v.saw ≡ 4)
@@ -47,7 +47,8 @@ Grows i n v w = w ≡ view v.parts (slice_set v.recorded i (at i v.recorded + n)
 abbrev pub Adds : Step (Unit {0}) → Me (Unit {0}) View → ℕ → Me (Unit {0}) View → Type 0
 Adds st me n w = Grows st.word st.first me.0 w.0 × (w.1 ≡ me.1)
 
--- n is a sum that was seen, no less than the seat had recorded or seen, and all that was recorded where it has every part
+-- n is a sum that was seen, modulo 2^64. The sum is no less than the seat had recorded or seen. If the seat has every
+-- part, the sum is all that was recorded.
 abbrev pub Reads : ℕ → ℕ → View → View → Type 0
 Reads i n v w =
     (n ≡ at i w.saw % 2 ^ 64) × (at i v.recorded ≤ at i w.saw) × (at i v.saw ≤ at i w.saw)

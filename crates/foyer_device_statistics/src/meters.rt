@@ -28,8 +28,8 @@ impl Meters {
         }
     }
 
-    /// How long both limits make a caller wait at the moment `now`, where so many bytes and calls were recorded: the
-    /// greater of the two.
+    /// Gives how long both limits make a caller wait at the moment `now`, if so many bytes and calls were recorded.
+    /// This is the greater of the two waits.
     pub fn poll(
         &mut self,
         limits: (Option<NonZeroUsize>, Option<NonZeroUsize>),

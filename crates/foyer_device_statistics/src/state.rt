@@ -12,7 +12,7 @@ pub struct IoState {
     pub disk_write_ios: u64,
     /// Calls that read, counted so.
     pub disk_read_ios: u64,
-    /// How long to wait before the next write; zero where nothing is to be waited for.
+    /// How long to wait before the next write, and zero if nothing is to be waited for.
     pub write_throttle: Duration,
     /// How long to wait before the next read.
     pub read_throttle: Duration,

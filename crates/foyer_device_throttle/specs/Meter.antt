@@ -9,7 +9,7 @@ pub record Filled : Type 0 where
   pub billionths : ℕ
   pub moment : ℕ
 
--- the quota, where so many units were recorded in all
+-- the quota, if so many units were recorded in all
 abbrev pub quota_of : Filled → ℕ → Quota
 quota_of f recorded = record { billionths = pos f.billionths -ℤ pos (recorded * billion); moment = f.moment }
 

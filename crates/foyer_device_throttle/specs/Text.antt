@@ -25,7 +25,7 @@ abbrev pub Names : List ℕ → IopsCounter → Type 0
 Names text PerIo = trim text ≡ codes "PerIo"
 Names text (PerIoSize size) = IsSizeText (trim text) (non_zero_usize_get size)
 
--- the counter that the text names, or Parse where it names none
+-- the counter that the text names, or Parse if it names none
 abbrev pub IsCounterOf : List ℕ → Result IopsCounter Error → Type 0
 IsCounterOf text r =
     MatchResult r (λ c. Names text c)

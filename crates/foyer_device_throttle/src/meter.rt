@@ -44,9 +44,9 @@ impl Meter {
         }
     }
 
-    /// How long it takes until the quota of a limit is 0, where so many units were recorded in all, at the moment
-    /// `now` in nanoseconds; zero where it isn't below 0, or there is no limit. A moment before the last one counts
-    /// as that.
+    /// Gives how long it takes until the quota of a limit is 0, if so many units were recorded in all. The moment is
+    /// `now`, in nanoseconds. Gives zero if the quota isn't below 0, or if there is no limit. A moment before the
+    /// last one counts as the last one.
     pub fn poll(&mut self, limit: Option<NonZeroUsize>, recorded: u64, now: u64) -> Duration
         ensures polled { IsPolled limit recorded now self.old self.new (as_nanos result) }
         ensures led { IfSome limit (λ l. (begun : ℕ) (events : List Event)

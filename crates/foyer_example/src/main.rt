@@ -61,7 +61,7 @@ fn path_of(alloc: Global, directory: &str, name: &str) -> Result<String> {
     Ok(path)
 }
 
-// Reads a file, from the cache if it is there: its bytes, and where they come from.
+// Reads a file, from the cache if it is there. Gives the file's bytes and where they come from.
 fn read_through<S: Drop, N: Engine<S, String, Vec<u8>, NoProperties>, R>(
     rt: &R,
     alloc: Global,

@@ -12,8 +12,8 @@ record_len n = 36 + (8 + n + 8)
 abbrev pub greatest : ℕ
 greatest = 16773120
 
--- So many bytes are those of count records of a value of n bytes, each padded to whole pages: of this
--- many at most, and of none where one takes more than it may.
+-- So many bytes are those of count records of a value of n bytes, each record padded to whole pages. The
+-- count is at most this many records. It is 0 if a record takes more than it may.
 pub record AreRecords (n records bytes : ℕ) : Type 0 where
   pub count : ℕ
   pub few : count ≤ records

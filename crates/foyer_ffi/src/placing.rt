@@ -37,8 +37,8 @@ pub(crate) fn place(alloc: Global, value: &[u8], records: u64) -> u64
     taken
 }
 
-// Lays the records out, and counts their bytes. It stops where an allocation is refused, a block has no
-// room for a record, or the count passes `u64::MAX`.
+// Lays the records out, and counts their bytes. It stops if an allocation is refused, if a block has no
+// room for a record, or if the count passes `u64::MAX`.
 fn lay_out(alloc: Global, value: &[u8], records: u64, taken: &mut u64) -> Result<()>
     requires { taken.old ≡ 0 }
     ensures some { AreRecords (length value.now) records taken.new }

@@ -171,7 +171,8 @@ impl<A: Allocator> BlobIndex<A> {
         self.count = count + 1;
     }
 
-    /// A copy with the checksum and the count in front of the entries. Memory where it was refused.
+    /// Copies the bytes, with the checksum and the count in front of the entries. Error: Memory if
+    /// memory was refused.
     pub fn seal(&self, alloc: A) -> Result<IoSliceMut<A>>
         ensures sealed { IfOk result (λ b. IsSealed b (entries_of self.now)) }
         ensures size { IfOk result (λ b. length b ≡ length self.now.bytes) }
@@ -183,7 +184,7 @@ impl<A: Allocator> BlobIndex<A> {
         Ok(sealed)
     }
 
-    /// The same index over bytes of its own. Memory where they were refused.
+    /// Copies the index to bytes of its own. Error: Memory if these were refused.
     pub fn copy(&self, alloc: A) -> Result<BlobIndex<A>>
         ensures same { IfOk result (λ i. i ≡ self.now) }
         ensures memory { IfErr result (λ e. e ≡ error.Memory) }
@@ -277,8 +278,8 @@ fn entry_at(bytes: &[u8], i: usize) -> BlobEntryIndex
 pub struct BlobIndexReader;
 
 impl BlobIndexReader {
-    /// The entries of a sealed index, in order; `None` where the bytes are none, as fewer than 12
-    /// are. Memory where an allocation was refused.
+    /// Gives the entries of a sealed index, in order. Gives `None` if the bytes are no sealed
+    /// index, for example fewer than 12 bytes. Error: Memory if an allocation was refused.
     #[tactic(auto, using(crate::proofs::BlobLemmas::entry_lemmas))]
     pub fn read<A: Allocator>(alloc: A, bytes: &[u8]) -> Result<Option<Vec<BlobEntryIndex, A>>>
         ensures sealed { IfOk result (λ found. IfSome found (λ v. IsSealed bytes.now v.items)) }

@@ -30,7 +30,7 @@ pub record IsPart {A : Type 0} (s : Sizes) (whole : Section) (start : ℕ) (f : 
 
 -- LaidOut: from a filling of a block on, and from byte start of the batch on, the records are placed
 -- into these parts of the block and into these further blocks, and a filling is left.
--- Left says the same where the present part takes no more of the batch.
+-- Left says the same if the present part takes no more of the batch.
 mutual
   pub data LaidOut {A : Type 0} (s : Sizes) (whole : Section) : (start : ℕ) → Position
       → List BufferEntryInfo → List (BlobPart A) → List (List (BlobPart A)) → Position → Type 0 where
@@ -50,13 +50,13 @@ mutual
     -- the batch ends, and the next one goes on in the same blob
     done : {start : ℕ} {f : Position} → length f.listed < capacity_of s.index
         → Left s whole start f [] [] [] f
-    -- a blob is left where its index is full
+    -- a blob is left if its index is full
     blob : {start : ℕ} {f g : Position} {infos : List BufferEntryInfo} {parts : List (BlobPart A)}
         {blocks : List (List (BlobPart A))}
         → length f.listed ≡ capacity_of s.index
         → LaidOut s whole start (next_blob s f) infos parts blocks g
         → Left s whole start f infos parts blocks g
-    -- a block is left where the next record doesn't fit in it
+    -- a block is left if the next record doesn't fit in it
     block : {start : ℕ} {f g : Position} {i : BufferEntryInfo} {infos : List BufferEntryInfo}
         {parts : List (BlobPart A)} {blocks : List (List (BlobPart A))}
         → length f.listed < capacity_of s.index → s.block < tail_of f + page_up i.len

@@ -46,7 +46,7 @@ pub data Chain (s : Sizes) (B : ℕ → ℕ) (failed : ℕ → Bool)
   goes : {p q : ℕ} {es rest : List BlobEntryIndex} → IsIndex s B failed p es
       → Chain s B failed (behind s p es) rest q → Chain s B failed p (placed p es ++ rest) q
 
--- A block of these bytes lists these entries, where reads of these places failed.
+-- A block of these bytes lists these entries, if the reads of these places failed.
 pub record Lists (s : Sizes) (B : ℕ → ℕ) (failed : ℕ → Bool) (es : List BlobEntryIndex)
     : Type 0 where
   pub end : ℕ

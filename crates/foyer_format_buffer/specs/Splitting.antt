@@ -17,7 +17,7 @@ module _ {A : Type 0} where
   abbrev pub position_of : SplitProgress A → Position
   position_of w = record { blob = w.blob; at = w.at; listed = entries_of w.index }
 
-  -- the batch's blocks, where these parts and blocks follow
+  -- the batch's blocks, if these parts and blocks follow
   abbrev pub blocks_with : SplitProgress A → List (BlobPart A) → List (List (BlobPart A))
       → List (List (BlobPart A))
   blocks_with w parts blocks = map parts_of w.blocks.items ++ (w.parts.items ++ parts) ∷ blocks
@@ -37,7 +37,7 @@ module _ {A : Type 0} where
     pub listed : entries_of w.index ≡ f.listed ++ w.indices.items
     pub within : 0 < length now → w.blob + w.at + w.size ≤ w.block_size
 
-  -- The same where no record is collected, and the present part takes no more.
+  -- The same holds if no record is collected, and the present part takes no more.
   pub record Closed (whole : Section) (f0 : Position) (all : List BufferEntryInfo) (w : SplitProgress A)
       (rest : List BufferEntryInfo) : Type 0 where
     pub f : Position

@@ -80,9 +80,9 @@ impl<A: Allocator> Buffer<A> {
         *written
     }
 
-    /// Appends the record of a key and a value; false where it doesn't fit or a code fails. Memory
-    /// where an allocation was refused. Another answer than true leaves the entries; bytes behind them
-    /// may change.
+    /// Appends the record of a key and a value. Gives false if the record doesn't fit, if a code
+    /// fails, or if the compression isn't `None`. Error: Memory if an allocation was refused. Unless
+    /// true is answered, the entries stay as they are. Bytes behind them may change.
     pub fn push<K: Code<A>, V: Code<A>>(
         &mut self,
         key: &K,
@@ -130,8 +130,8 @@ impl<A: Allocator> Buffer<A> {
         Ok(true)
     }
 
-    /// Appends bytes as they are; false where they don't fit. Memory where an allocation was refused.
-    /// Another answer than true leaves the entries.
+    /// Appends bytes as they are. Gives false if they don't fit. Error: Memory if an allocation was
+    /// refused. Unless true is answered, the entries stay as they are.
     pub fn push_slice(&mut self, slice: &[u8], hash: u64, sequence: Sequence) -> Result<bool>
         ensures pushed { IfOk result (λ done. OnTrue done
             (self.new ≡ with_entry self.old hash sequence slice.now)) }
@@ -165,7 +165,7 @@ impl<A: Allocator> Buffer<A> {
         Ok(true)
     }
 
-    /// The pages, and where the entries stand in them.
+    /// Gives the pages, and where the entries stand in them.
     pub fn finish(self) -> (IoSliceMut<A>, Vec<BufferEntryInfo, A>)
         ensures { IsFinished self result.0 result.1.items }
     {

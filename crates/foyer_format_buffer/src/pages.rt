@@ -81,8 +81,8 @@ impl<A: Allocator> Pages<A> {
         self.bytes.as_mut_slice()[self.written..end].copy_from_slice(slice);
     }
 
-    // Writes a record behind what was written, without counting it; false where a code fails. The
-    // header's place is filled last.
+    // Writes a record behind what was written, without counting it. Gives false if a code fails.
+    // The header's place is filled last.
     pub(super) fn put_record<K: Code<A>, V: Code<A>>(
         &mut self,
         key: &K,

@@ -85,7 +85,8 @@ impl<A: Allocator> SplitCtx<A> {
     ghost use Rattle.foyer_format_blob.specs.Blob.{capacity_of};
     ghost use Rattle.foyer_format_buffer.specs.Splitting.{IsBegun, sizes_of, position_of};
 
-    /// At the start of a block, with an index without entries. Memory where it was refused.
+    /// Begins at the start of a block, with an index without entries. Error: Memory if memory was
+    /// refused.
     #[tactic(auto, using(foyer_format_layout::proofs::PageLaws::pages))]
     pub fn new(alloc: A, block_size: usize, blob_index_size: usize) -> Result<SplitCtx<A>>
         requires block_pages { block_size % 4096 ≡ 0 }
@@ -172,9 +173,10 @@ pub struct Splitter;
 impl Splitter {
     ghost use Rattle.foyer_format_buffer.specs.Layout.{IsLaidOut};
 
-    /// Places the records of a batch, in their order, into parts of blobs and blocks from where the
-    /// context is, and moves the context behind them. The parts share the batch's bytes, which
-    /// begin with the first record. Memory where an allocation was refused; the context stays then.
+    /// Places the records of a batch, in their order, into parts of blobs and blocks. Begins where
+    /// the context is, and moves the context behind the records. The parts share the batch's bytes,
+    /// which begin with the first record. Error: Memory if an allocation was refused. Then the
+    /// context stays as it was.
     pub fn split<A: Allocator + Clone>(
         alloc: &A,
         ctx: &mut SplitCtx<A>,

@@ -156,7 +156,7 @@ impl<A: Allocator + Clone> SplitProgress<A> {
         Ok(())
     }
 
-    // Begins a new block where the record doesn't fit into the present one.
+    // Begins a new block if the record doesn't fit into the present one.
     fn room_in_block(&mut self, alloc: &A, bytes: &IoSlice<A>, info: &BufferEntryInfo) -> Result<()>
         requires within { self.old.start + self.old.size ≤ length (bytes_of bytes.now) }
         requires fits { FitsBlock (sizes_of self.old) info.now }
@@ -177,7 +177,7 @@ impl<A: Allocator + Clone> SplitProgress<A> {
         Ok(())
     }
 
-    // Begins a new blob where the index is full.
+    // Begins a new blob if the index is full.
     fn room_in_index(&mut self, alloc: &A, bytes: &IoSlice<A>) -> Result<()>
         requires within { self.old.start + self.old.size ≤ length (bytes_of bytes.now) }
         ensures going { OnOk result ((f : Position) (all rest : List BufferEntryInfo)

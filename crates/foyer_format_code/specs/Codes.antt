@@ -1,12 +1,12 @@
--- How values are encoded. A number is the bytes of its width, the lowest first, where a negative one
--- is what is left of 2 to the width's bits; a flag is one byte, 0 or 1; bytes and texts are their
--- length, encoded as a number of 64 bits, and themselves.
+-- How values are encoded. A number is the bytes of its width, the lowest first. For a negative
+-- number, these are the bytes of its sum with 2 to the power of the width's bits. A flag is one
+-- byte, 0 or 1. Bytes and texts are their length, encoded as a number of 64 bits, and themselves.
 use Rattle.std.specs.Prelude.{ℕ, ℤ, pos, negsuc, ◌^◌, ◌==◌, ◌&&◌, nat_le, nat_lt, Bool, true, false, List, [], ◌∷◌, ◌++◌, length, take, drop, Option, Some, None, if◌then◌else◌}
 use Rattle.std.specs.Int.{Width, w64, byte_len, to_le_bytes, from_le_bytes, cast_signed, cast_unsigned}
 use Rattle.std.specs.Str.{is_utf8}
 use mir.Val.{bits, hbits}
 
--- the bytes of a number of this width; no bytes where it doesn't fit
+-- the bytes of a number of this width; no bytes if it doesn't fit
 unfoldable pub number_bytes : Width → ℕ → List ℕ
 number_bytes w n = if nat_lt n (2 ^ bits w) then to_le_bytes w n else []
 
@@ -22,7 +22,7 @@ abbrev pub int_fits : Width → ℤ → Bool
 int_fits w (pos n) = nat_lt n (2 ^ hbits w)
 int_fits w (negsuc n) = nat_lt n (2 ^ hbits w)
 
--- the bytes of a signed number of this width; no bytes where it doesn't fit
+-- the bytes of a signed number of this width; no bytes if it doesn't fit
 unfoldable pub int_bytes : Width → ℤ → List ℕ
 int_bytes w z = if int_fits w z then to_le_bytes w (cast_unsigned w z) else []
 

@@ -23,7 +23,7 @@ Extends (Some room) (Some left) None new = ⊤
 Extends (Some room) (Some left) (Some xs) None = ⊥
 Extends (Some room) (Some left) (Some xs) (Some ys) = (more : List ℕ) × (ys ≡ xs ++ more)
 
--- what a failed writer answers: where its room is known, only that the room is too small
+-- what a failed writer answers: if its room is known, only that the room is too small
 abbrev pub IsFaultAt : Option ℕ → Error → Type 0
 IsFaultAt None e = IsWriterFault e
 IsFaultAt (Some room) e = e ≡ BufferSizeLimit

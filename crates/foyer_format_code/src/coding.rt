@@ -45,7 +45,7 @@ pub trait Code<A: Allocator> {
         ensures refused { IfErr result (λ e. (is_encodable self.now ≡ true → ⊥)
             ⊎ IsWriteFault (W.room writer.old) (length (encoding self.now)) e) };
 
-    /// Writes the value's bytes to any writer. Io where the writer failed, BufferSizeLimit where it
+    /// Writes the value's bytes to any writer. Errors: Io if the writer failed, BufferSizeLimit if it
     /// takes no more, else the code's own error. After an `Err` some of the bytes may have been
     /// written.
     final fn encode<W: Write>(&self, writer: &mut W) -> Result<()>
@@ -63,8 +63,8 @@ pub trait Code<A: Allocator> {
         self.encode_into(&mut lent)
     }
 
-    /// The value that the bytes encode, all of the bytes. Parse where they decode to none, Memory where
-    /// an allocation was refused.
+    /// Gives the value that the bytes encode, all of the bytes. Errors: Parse if they decode to none,
+    /// Memory if an allocation was refused.
     fn decode(alloc: A, bytes: &[u8]) -> Result<Self>
     where
         Self: Sized,

@@ -9,23 +9,24 @@ use foyer_device_page::error::Result;
 use std::io;
 use std::io::Write;
 
-/// A writer that counts its bytes. Where its room is known, only a lack of room makes it fail, so
-/// that a caller can tell its failure from that of a code.
+/// A writer that counts its bytes. If its room is known, only a lack of room makes it fail. So a
+/// caller can tell its failure from that of a code.
 pub trait Sink: Write {
-    // How many bytes it surely takes, where that is known.
+    // How many bytes it surely takes, if that is known.
     ghost room: { Self → Option ℕ };
 
     // How many bytes it has taken.
     ghost taken: { Self → ℕ };
 
-    // The borrow that it writes through, which stays; 0 where it owns what it writes into.
+    // The borrow that it writes through, which stays. It is 0 if the writer owns what it writes
+    // into.
     ghost borrow: { Self → ℕ };
 
     /// How many bytes it has taken, at most `usize::MAX`.
     fn taken(&self) -> usize
         ensures { result ≡ taken self.now };
 
-    /// Writes all the bytes. BufferSizeLimit where room is missing, Io where the writer failed.
+    /// Writes all the bytes. Errors: BufferSizeLimit if room is missing, Io if the writer failed.
     /// After an `Err` some of the bytes may have been written.
     fn put(&mut self, bytes: &[u8]) -> Result<()>
         ensures bytes { OnOk result
@@ -40,7 +41,7 @@ pub trait Sink: Write {
         ensures borrow { borrow self.new ≡ borrow self.old };
 }
 
-/// A writer that counts the bytes it takes, up to `usize::MAX`, where the count stays.
+/// A writer that counts the bytes it takes. At `usize::MAX` the count stays.
 #[derive(Drop)]
 pub struct TrackedWriter<W> {
     inner: W,

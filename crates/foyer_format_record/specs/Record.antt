@@ -80,7 +80,7 @@ outcome_with is_key is_value b hash sequence (Ok head) =
     then body_outcome is_key is_value head (drop 36 b)
     else NoRecord
 
--- what b is, where this hash and this sequence are looked for
+-- what b is, if this hash and this sequence are looked for
 unfoldable pub pair_of : (is_key is_value : List ℕ → Bool) → List ℕ → (hash sequence : ℕ) → Outcome
 pair_of is_key is_value b hash sequence =
     outcome_with is_key is_value b hash sequence (header_of (take 36 b))

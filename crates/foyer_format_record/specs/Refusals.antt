@@ -8,8 +8,8 @@ use Rattle.foyer_format_record.specs.Record.{Outcome}
 use Rattle.foyer_format_record.specs.Record.{Outcome as outcome}
 use Rattle.foyer_format_code.specs.Writing.{IsWriteFault}
 
--- Serializing n bytes is refused for another compression than None; else where a code can't encode
--- its value, or the writer, of this room, fails.
+-- Serializing n bytes is refused for another compression than None. With None it is refused if a
+-- code can't encode its value, or if the writer, of this room, fails.
 abbrev pub IsSerializeFault : Compression → (is_encodable : Type 0) → Option ℕ → ℕ → Error → Type 0
 IsSerializeFault compression.None is_encodable room n e = (is_encodable → ⊥) ⊎ IsWriteFault room n e
 IsSerializeFault _ is_encodable room n e = e ≡ error.Unsupported

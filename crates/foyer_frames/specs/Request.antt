@@ -51,7 +51,7 @@ pub record Fits (limits : Limits) (r : Asked) : Type 0 where
   pub key_width : length r.key < 2 ^ 32
   pub value_width : length r.value < 2 ^ 32
 
--- a request whose lengths four bytes hold, 0 where its kind has none
+-- a request whose lengths four bytes hold; a length is 0 if its kind has no such part
 abbrev pub IsSendable : Asked → Type 0
 IsSendable r = (length r.key ≤ key_limit (record { key = 2 ^ 32 - 1; value = 2 ^ 32 - 1 }) r.kind) × (length r.value ≤ value_limit (record { key = 2 ^ 32 - 1; value = 2 ^ 32 - 1 }) r.kind)
 

@@ -39,7 +39,7 @@ module _ {R A : Type 0} where
   abbrev pub last_value : Frames R A → List ℕ
   last_value f = held_value f.window
 
-  -- the bytes that were not taken yet, where they are known: those that were read, and those that the input has left
+  -- the bytes that were not taken yet, if they are known: those that were read, and those that the input has left
   abbrev pub unread : (R → Option (List ℕ)) → Frames R A → Option (List ℕ)
   unread remaining f = prepend_known (buffered f) (remaining f.input)
 
@@ -57,7 +57,7 @@ Takes limits bytes (taken.Request head) key value rest = request_at limits bytes
 Takes limits bytes (taken.Refused fault) key value rest = (request_at limits bytes ≡ Err fault) × (fault ≢ Short) × (rest ≡ bytes)
 Takes limits bytes taken.Partial key value rest = (request_at limits bytes ≡ Err Short) × (rest ≡ bytes)
 
--- what a call for more found: what was held, what is held now, and what the input has left where it is known
+-- what a call for more found, by what was held, what is held now and, if it is known, what the input has left
 abbrev pub Fills : Limits → List ℕ → Filled → List ℕ → Option (List ℕ) → Type 0
 Fills limits old filled.More new left = length old < length new
 Fills limits old filled.Ready new left = (request_at limits old ≢ Err Short) × (new ≡ old)

@@ -22,7 +22,8 @@ pub enum Next {
     Cut,
 }
 
-/// A reader's requests. It keeps what it read: a buffer of 64 KiB, which grows up to a frame of the limits where a frame is longer.
+/// A reader's requests. It keeps what it read in a buffer of 64 KiB. If a frame is longer, the buffer grows, up to a frame of the
+/// limits.
 pub struct Frames<R: Read + Drop, A: Allocator> {
     input: R,
     window: Window<A>,
@@ -41,7 +42,7 @@ impl<R: Read + Drop, A: Allocator> Drop for Frames<R, A> {
 impl<R: Read + Drop, A: Allocator> Frames<R, A> {
     ghost use Rattle.foyer_frames.specs.Stream.{Fills, Finds, Takes, buffer_len, buffered, last_key, last_value, limits_of, unread};
 
-    /// The requests of a reader, of which nothing is read yet. `AllocError` where there is no memory for 64 KiB.
+    /// Gives the requests of a reader, of which nothing is read yet. Error: `AllocError` if there is no memory for 64 KiB.
     pub fn new(alloc: A, input: R, limits: Limits) -> Result<Frames<R, A>, AllocError>
         ensures limits { IfOk result (λ f. limits_of f ≡ limits) }
         ensures unread { IfOk result (λ f. Keeps (R.remaining input) (unread R.remaining f)) }
@@ -83,8 +84,8 @@ impl<R: Read + Drop, A: Allocator> Frames<R, A> {
         self.window.value()
     }
 
-    /// Reads more, where what was read is less than a frame. An error is the reader's, or `OutOfMemory` where the buffer can't grow;
-    /// nothing is lost by it, and the call may be made again.
+    /// Reads more if what was read is less than a frame. An error is the reader's, or `OutOfMemory` if the buffer can't grow.
+    /// Nothing is lost by an error, and the call may be made again.
     pub fn fill(&mut self) -> io::Result<Filled>
         ensures filled { IfOk result (λ f. Fills (limits_of self.old) (buffered self.old) f (buffered self.new) (R.remaining self.new.input)) }
         ensures front { (more : List ℕ) × (buffered self.new ≡ buffered self.old ++ more) }
@@ -110,7 +111,7 @@ impl<R: Read + Drop, A: Allocator> Frames<R, A> {
     pub fn next(&mut self) -> io::Result<Next>
         ensures found { IfOk result (λ n. IfSome (unread R.remaining self.old)
             (λ bytes. Finds (limits_of self.old) bytes n (last_key self.new) (last_value self.new) (unread R.remaining self.new))) }
-        // The same of what was held and was read, where the input's bytes aren't known.
+        // The same holds of what was held and was read, if the input's bytes aren't known.
         ensures read { IfOk result (λ n. (more : List ℕ)
             × Finds (limits_of self.old) (buffered self.old ++ more) n (last_key self.new) (last_value self.new) (Some (buffered self.new))) }
         ensures err { OnErr result (Keeps (unread R.remaining self.old) (unread R.remaining self.new)) }

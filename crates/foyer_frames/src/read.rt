@@ -6,7 +6,7 @@ ghost use Rattle.std.specs.Io.KnownBytes.{Consumes, IsAtEnd, Keeps};
 use std::io;
 use std::io::Read;
 
-// One read, again where it was interrupted. Another error is the reader's.
+// Does one read, and does it again if it was interrupted. Another error is the reader's.
 pub(crate) fn read_some<R: Read>(input: &mut R, room: &mut [u8]) -> io::Result<usize>
     ensures bound { ReadsAtMost result room.new }
     ensures ok { IfOk result (λ n. Consumes (R.remaining input.old) (R.remaining input.new) (take n room.new)) }

@@ -30,14 +30,14 @@ impl Limits {
         value: u32::MAX,
     };
 
-    /// The most bytes of key that a request of this kind may have: 0 where the kind has none.
+    /// Gives the most bytes of key that a request of this kind may have, which is 0 if the kind has no key.
     pub fn key_of(self, kind: Kind) -> u32
         ensures { result ≡ key_limit self kind }
     {
         if kind.has_key() { self.key } else { 0 }
     }
 
-    /// The most bytes of value that a request of this kind may have: 0 where the kind has none.
+    /// Gives the most bytes of value that a request of this kind may have, which is 0 if the kind has no value.
     pub fn value_of(self, kind: Kind) -> u32
         ensures { result ≡ value_limit self kind }
     {
@@ -56,9 +56,9 @@ pub enum Fault {
     KeyTooLong,
     /// The value, or a reply's bytes, are longer than the limit.
     ValueTooLong,
-    /// A key where the kind has none.
+    /// A key of a request whose kind has none.
     UnwantedKey,
-    /// A value where the kind has none.
+    /// A value of a request whose kind has none.
     UnwantedValue,
 }
 
@@ -132,9 +132,9 @@ pub struct Request<'a> {
     pub kind: Kind,
     /// The caller's own number for the request: its reply carries it.
     pub number: u32,
-    /// The key's bytes. Empty where the kind has none.
+    /// The key's bytes. They are empty if the kind has no key.
     pub key: &'a [u8],
-    /// The value's bytes. Empty where the kind has none.
+    /// The value's bytes. They are empty if the kind has no value.
     pub value: &'a [u8],
 }
 
@@ -197,8 +197,9 @@ impl<'a> Request<'a> {
         read_request(bytes, limits)
     }
 
-    /// Writes the request's frame. A key or a value of more than `u32::MAX` bytes, or where the kind has none, is `InvalidInput`, and
-    /// nothing is written; any other error is the writer's, which may have taken a part of the frame.
+    /// Writes the request's frame. Errors: `InvalidInput` if a key or a value has more than `u32::MAX` bytes, or has any bytes
+    /// although the kind has none. Then nothing is written. Any other error is the writer's, which may have taken a part of the
+    /// frame.
     pub fn write_to<W: Write>(&self, output: &mut W) -> io::Result<()>
         ensures written { OnOk result
             (Appends (W.contents output.old) (W.contents output.new) (request_bytes (asked self.now))) }

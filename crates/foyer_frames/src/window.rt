@@ -68,7 +68,7 @@ impl<A: Allocator> Drop for Window<A> {
     }
 }
 
-// Makes the bytes so many, with zeros behind those that are there. Where there is no memory, they stay as they are.
+// Makes the bytes so many, with zeros behind those that are there. If there is no memory, the bytes stay as they are.
 fn lengthen<A: Allocator>(bytes: &mut Vec<u8, A>, len: usize) -> Result<(), AllocError>
     requires { vec_len bytes.old ≤ len }
     ensures ok { OnOk result (vec_len bytes.new ≡ len) }
@@ -156,7 +156,7 @@ impl<A: Allocator> Window<A> {
         }
     }
 
-    // Moves what is held to the front, and makes the buffer longer where it is full: up to twice as long, never longer than a
+    // Moves what is held to the front. If the buffer is full, makes it longer: up to twice as long, but never longer than a
     // frame within the limits. The last key and value are gone.
     pub(crate) fn make_room(&mut self) -> Result<(), AllocError>
         requires { request_at self.old.limits (held self.old) ≡ Err Short }
@@ -190,7 +190,7 @@ impl<A: Allocator> Window<A> {
         self.end = end - start;
     }
 
-    // One read into the room behind what is held, again where it was interrupted.
+    // Does one read into the room behind what is held, and does it again if it was interrupted.
     pub(crate) fn read_from<R: Read>(&mut self, input: &mut R) -> io::Result<usize>
         ensures ok { IfOk result (λ n. (more : List ℕ) × (length more ≡ n) × (held self.new ≡ held self.old ++ more)
             × Consumes (R.remaining input.old) (R.remaining input.new) more) }

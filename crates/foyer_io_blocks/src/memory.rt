@@ -33,8 +33,8 @@ impl<A: Allocator> Drop for MemoryDisk<A> {
 }
 
 impl<A: Allocator> MemoryDisk<A> {
-    /// So many blocks of this size in bytes, all zeros. `Memory`, or `OutOfRange` where the sizes' product passes the
-    /// type's end.
+    /// Makes so many blocks of this size in bytes, all zeros. Errors: `Memory`; `OutOfRange` if the product of
+    /// `blocks` and `block_size` passes the type's end.
     pub fn new(alloc: A, blocks: u32, block_size: usize) -> Result<MemoryDisk<A>>
         ensures zeros { IfOk result (λ d. (b o : ℕ) → ⟦<MemoryDisk<A> as Disk>⟧.byte_at d b o ≡ 0) }
         ensures sizes { IfOk result (λ d. (d.blocks ≡ blocks) × (d.block_size ≡ block_size)) }
@@ -51,7 +51,7 @@ impl<A: Allocator> MemoryDisk<A> {
         })
     }
 
-    // Where a range of a block begins in the memory. None where it doesn't lie in the block.
+    // Gives where a range of a block begins in the memory, and none if the range doesn't lie in the block.
     fn start_of(&self, block: BlockId, offset: usize, len: usize) -> Option<usize>
         ensures within { IsSome result ↔ IsWithin self.now.blocks self.now.block_size block offset len }
         ensures start { IfSome result (λ at. (at ≡ block * self.now.block_size + offset)

@@ -95,8 +95,9 @@ pub fn create_blocks<D: Device, R: Files, A: Allocator>(
     Ok(blocks)
 }
 
-/// So many blocks of a size in memory, all zeros, behind a device and an engine as those of a directory are. Refused as
-/// `create_blocks` refuses, and `OutOfRange` where the sizes' product passes the type's end.
+/// Opens so many blocks of a size in memory, all zeros. They are behind a device and an engine, as the blocks of a
+/// directory are. Errors: those of `create_blocks`, and `OutOfRange` if the product of `count` and `size` passes the
+/// type's end.
 pub fn open_in_memory<R: Files, A: Allocator + Clone>(
     rt: &R,
     alloc: &A,

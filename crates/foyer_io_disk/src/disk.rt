@@ -7,7 +7,7 @@ use foyer_block_index::manager::BlockId;
 use foyer_device_page::error::Result;
 use std::alloc::Allocator;
 
-/// Blocks of bytes. Its bytes stay but for what `write` changes.
+/// Blocks of bytes. The bytes stay, except for what `write` changes.
 pub trait Disk {
     // Contracts see its bytes. Those of a system's files aren't seen: nothing is claimed of what a read of them gives.
     ghost is_known: { Self → Type 0 };
@@ -21,7 +21,7 @@ pub trait Disk {
     // How many of its accesses the device failed, as far as it counts.
     ghost faults: { Self → ℕ };
 
-    // So many bytes from an offset of a block on surely lie in it: an access of them fails only where the device failed.
+    // So many bytes from an offset of a block on surely lie in it. An access of them fails only if the device failed.
     ghost surely_lies: { Self → ℕ → ℕ → ℕ → Type 0 };
 
     // So many bytes from an offset of a block on are there at all; a disk that doesn't say has any.

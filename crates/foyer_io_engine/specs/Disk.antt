@@ -4,7 +4,7 @@ use Rattle.foyer_device_partition.specs.Extent.{Extent, place}
 use Rattle.foyer_device_page.specs.declared.error.Error.{Error}
 use Rattle.foyer_device_page.specs.declared.error.Error.TheVariants as error
 
--- how many bytes the file of each number has, none where there is no such file, and the byte at each place of it
+-- how many bytes the file of each number has, none if there is no such file, and the byte at each place of it
 pub record Disk : Type 0 where
   pub len : ℕ → ℕ
   pub byte : ℕ → ℕ → ℕ
@@ -48,7 +48,7 @@ DidWrite old extent size offset bytes new =
 abbrev pub MayTear : Disk → Extent → ℕ → ℕ → Disk → Type 0
 MayTear old extent offset n new = ChangesOnly old extent.file (place extent offset) n new
 
--- why a read or a write was refused, where so many faults had been counted before and after it
+-- why a read or a write was refused, if so many faults had been counted before and after it
 abbrev pub IsAccessFault : ℕ → ℕ → Error → Type 0
 IsAccessFault old new e =
     ((e ≡ error.OutOfRange) × (new ≡ old)) ⊎ ((e ≡ error.Io) × ((old < new) ⊎ (old ≡ 2 ^ 64 - 1)))
@@ -57,6 +57,6 @@ IsAccessFault old new e =
 abbrev pub IfKnown : Option Disk → (Disk → Type 0) → Type 0
 IfKnown disk P = (d : Disk) → disk ≡ Some d → P d
 
--- where it shows one before, it shows one after, and so the one goes to the other
+-- if the engine shows a disk before, it shows one after, and so the one goes to the other
 abbrev pub Becomes : Option Disk → Option Disk → (Disk → Disk → Type 0) → Type 0
 Becomes old new P = (d : Disk) → old ≡ Some d → (e : Disk) × (new ≡ Some e) × P d e

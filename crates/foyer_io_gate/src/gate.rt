@@ -1,4 +1,4 @@
-//! Places that a thread passes, where a test may hold it.
+//! Places that a thread passes. At such a place a test may hold the thread.
 
 use foyer_block_index::manager::BlockId;
 use foyer_device_page::error::Result;
@@ -6,7 +6,7 @@ use foyer_io_disk::disk::Disk;
 use std::alloc::Allocator;
 use std::sync::Arc;
 
-/// Where a thread passes.
+/// A place that a thread passes.
 #[derive(Clone, Copy, Debug, PartialEq, Eq)]
 pub enum Point {
     /// Before a flush's write.

@@ -1,4 +1,4 @@
-//! Places that a thread passes, where a test may hold it, and a disk that passes one.
+//! Places that a thread passes, at which a test may hold it, and a disk that passes such a place.
 #![tactic(auto)]
 
 pub mod gate;

@@ -11,8 +11,8 @@ use Rattle.foyer_list.specs.declared.listing.ChainEnd.{ChainEnd}
 use Rattle.foyer_list.specs.declared.listing.ChainEnd.TheVariants as end
 use Rattle.foyer_list.specs.declared.listing.Listing.{Listing}
 
--- Why a chain ends at offset q of a block of these bytes, where the reads of these offsets failed: no index has room there;
--- or one has, and its read failed; or it came, and its bytes are no index whose entries fit.
+-- Why a chain ends at offset q of a block of these bytes, if the reads of these offsets failed. Either no index has room there. Or an index
+-- has room, and its read failed. Or its read came, and the bytes are no index whose entries fit.
 abbrev pub EndsBy : Sizes → (ℕ → ℕ) → (ℕ → Bool) → ℕ → ChainEnd → Type 0
 EndsBy s B failed q end.BlockEnd = s.block < q + s.index
 EndsBy s B failed q (end.FailedRead offset) = (offset ≡ q) × (q + s.index ≤ s.block) × (failed q ≡ true)

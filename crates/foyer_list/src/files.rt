@@ -16,7 +16,7 @@ use std::rt::Files;
 /// `Unsupported`: nothing is made, cut or lengthened.
 #[derive(Drop)]
 pub struct BlockFiles<A: Allocator> {
-    // The file of each block, where there is one.
+    // The file of each block, if there is one.
     files: Vec<Option<File>, A>,
     // How many accesses failed, up to 2^64 - 1.
     failures: u64,
@@ -39,8 +39,7 @@ fn open_file<R: Files<File = File>>(rt: &R, path: &str) -> Result<Option<File>>
 }
 
 impl<A: Allocator + Clone> BlockFiles<A> {
-    /// The files of so many blocks, opened by their names for reading. `Io` where one that is there can't be opened;
-    /// `Memory`.
+    /// Opens the files of this many blocks by their names, for reading. Errors: `Io` if a file that is there can't be opened; `Memory`.
     pub fn open<R: Files<File = File>>(
         rt: &R,
         alloc: &A,

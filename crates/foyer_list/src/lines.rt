@@ -30,7 +30,7 @@ pub fn block_line<A: Allocator>(alloc: A, block: BlockId) -> Result<String<A>>
     Ok(line)
 }
 
-/// An entry's line: its hash, its sequence, where its record begins in the block, how long it is, and the verdict on it.
+/// Makes an entry's line: its hash, its sequence, where its record begins in the block, how long it is, and the verdict on it.
 pub fn entry_line<A: Allocator>(alloc: A, info: &EntryInfo, verdict: Verdict) -> Result<String<A>>
     ensures text { IfOk result (λ line. string_bytes line ≡ entry_text info.now verdict) }
     ensures memory { IsOkUnless result Memory }

@@ -19,7 +19,7 @@ use std::io;
 use std::io::{BufWriter, Write};
 use std::rt::Files;
 
-/// Printed where the arguments are bad.
+/// The text that is printed if the arguments are bad.
 pub const USAGE: &str = "usage: foyerlist DIR CAPACITY BLOCK\n";
 
 // The bytes of the output's buffer.
@@ -59,11 +59,11 @@ impl From<io::Error> for Stopped {
     }
 }
 
-/// Lists what the blocks of a directory hold, by the words `DIR CAPACITY BLOCK`, and gives the exit status: 0, or 1 where a
-/// fault was printed or the output failed, or 2 for bad words, of which `:memory:` is one. `--version` alone prints the version.
+/// Lists what the blocks of a directory hold, by the words `DIR CAPACITY BLOCK`, and gives the exit status. The status is 0, or 1 if a fault
+/// was printed or the output failed, or 2 for bad words. `:memory:` is a bad word. `--version` alone prints the version.
 ///
-/// Files are opened for reading alone. A missing file, or one that is too short, is a failed read. Where a file that is
-/// there can't be opened, a line of `errors` says so beside the fault that is printed.
+/// Files are opened only for reading. A missing file, or one that is too short, is a failed read. If a file that is there can't be opened, a
+/// line of `errors` says so. The fault is printed as well.
 pub fn list<T, A, B, W, E>(
     rt: &T,
     alloc: A,

@@ -47,8 +47,8 @@ pub fn verdict_of<A: Allocator + Clone>(
     }
 }
 
-/// The addresses that an opening of the disk's blocks finds, without marks of deletes, where failed reads refuse nothing.
-/// `Config` where the sizes don't go together; `SequenceEnd` where an entry that is kept has the last sequence; `Memory`.
+/// Gives the addresses that an opening of the disk's blocks finds, without marks of deletes. A failed read refuses nothing. Errors: `Config`
+/// if the sizes don't go together; `SequenceEnd` if an entry that is kept has the last sequence; `Memory`.
 pub fn winners<A: Allocator + Clone, D: Disk>(
     alloc: &A,
     disk: &mut D,

@@ -262,7 +262,7 @@ fn reply_counters<O: Write + Drop>(
     }
 }
 
-/// A request, with its key and its value where they lie in the frame.
+/// A request. Its key and its value are slices of the frame.
 #[derive(Clone, Copy)]
 pub(crate) struct Asked<'a> {
     pub(crate) kind: Kind,

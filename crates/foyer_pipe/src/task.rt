@@ -78,8 +78,8 @@ where
     Went::Badly
 }
 
-// Answers every request, until the input ends or fails, a frame is none, or the output fails: whether all went well. Replies are written
-// out before more input is asked for, but for those that other threads write.
+// Answers every request until the input ends or fails, bytes of it are no frame, or the output fails. Says whether all went well. Replies are
+// written out before more input is asked for, except those that other threads write.
 fn answer_all<S, N, R, O>(
     rt: &impl Wait,
     alloc: Global,

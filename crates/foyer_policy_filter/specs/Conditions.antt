@@ -12,13 +12,13 @@ pub record Sizes : Type 0 where
   pub first : ℕ
   pub end : ℕ
 
--- admitted exactly where the size is one of these, else rejected
+-- admitted exactly if the size is one of these, else rejected
 abbrev pub Decides : Sizes → ℕ → StorageFilterResult → Type 0
 Decides s size Admit = (s.first ≤ size) × (size < s.end)
 Decides s size Reject = (size < s.first) ⊎ (s.end ≤ size)
 Decides s size (Throttled d) = ⊥
 
--- throttled by this wait, or admitted where it is zero
+-- throttled by this wait, or admitted if the wait is zero
 abbrev pub IsThrottledBy : Duration → StorageFilterResult → Type 0
 IsThrottledBy wait Admit = as_nanos wait ≡ 0
 IsThrottledBy wait Reject = ⊥

@@ -33,7 +33,7 @@ impl StorageFilterCondition for RejectAll {
     }
 }
 
-/// Throttled by what the device makes wait before the next write; admits where that is zero.
+/// Throttles by the wait that the device asks for before the next write. It admits if that wait is zero.
 #[derive(Clone, Copy, Debug, Default)]
 pub struct IoThrottle;
 

@@ -56,7 +56,7 @@ module _ {K V P : Type 0} (eq : K → K → Bool) where
   IsFound map hash key (Ok piece) = option_map (λ held. held.piece) (piece_at map hash key) ≡ Some piece
   IsFound map hash key (Err shown) = (piece_at map hash key ≡ None) × (shown.hash ≡ hash)
 
-  -- what a question under a hash and a key gives: what shows that no piece is there, where none is
+  -- what a question under a hash and a key gives: what shows that no piece is there, if none is
   abbrev pub IsLacked : PieceMap K V P → ℕ → K → Option NotKept → Type 0
   IsLacked map hash key None = IsSome (piece_at map hash key)
   IsLacked map hash key (Some shown) = (piece_at map hash key ≡ None) × (shown.hash ≡ hash)

@@ -83,8 +83,8 @@ impl<K: Eq + Drop, V: Drop, P: Drop, A: Allocator + Clone> Keeper<K, V, P, A> {
         Ok(Keeper { shards: made })
     }
 
-    /// Keeps one more owner of the piece under its hash and its key, in place of what is there, under the next number of its
-    /// shard. `SequenceEnd`, where the shard's numbers are used up; `Memory`. Then all is kept as before.
+    /// Keeps one more owner of the piece under its hash and its key, in place of what is there. The insertion gets the next number of its
+    /// shard. Errors: `SequenceEnd` if the shard's numbers are used up; `Memory`. After an error all is kept as before.
     pub fn insert(&self, rt: &impl Wait, piece: &Piece<K, V, P, A>) -> Result<PieceRef<K, V, P, A>>
         ensures piece { IfOk result (λ kept. (kept.piece ≡ piece.now) × (0 < kept.number)) }
         ensures refused { IfErr result (λ e. (e ≡ Error.Memory) ⊎ (e ≡ Error.SequenceEnd)) }
@@ -92,8 +92,8 @@ impl<K: Eq + Drop, V: Drop, P: Drop, A: Allocator + Clone> Keeper<K, V, P, A> {
         shard_of(&self.shards, piece.hash()).lock(rt).insert(piece)
     }
 
-    /// One more owner of the piece that is kept under a hash and a key, or what shows that none was. Memory, where the piece has
-    /// 2^63 - 1 owners.
+    /// Gives one more owner of the piece that is kept under a hash and a key, or what shows that no piece was kept. Errors: `Memory` if the
+    /// piece has 2^63 - 1 owners.
     pub fn get(
         &self,
         rt: &impl Wait,
@@ -107,7 +107,7 @@ impl<K: Eq + Drop, V: Drop, P: Drop, A: Allocator + Clone> Keeper<K, V, P, A> {
         shard_of(&self.shards, hash).lock(rt).get(hash, key)
     }
 
-    /// What shows that no piece was kept under a hash and a key, where none was.
+    /// Gives what shows that no piece was kept under a hash and a key, if none was.
     pub fn lacks(&self, rt: &impl Wait, hash: u64, key: &K) -> Option<NotKept>
         ensures { IfSome result (λ shown. shown.hash ≡ hash) }
     {

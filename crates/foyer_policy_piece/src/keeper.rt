@@ -100,7 +100,7 @@ impl<K, V, P, A: Allocator> Debug for Piece<K, V, P, A> {
     }
 }
 
-/// One more owner of the same piece. AllocError comes only where 2^63 - 1 owners are there.
+/// A clone is one more owner of the same piece. It fails with AllocError only if there are 2^63 - 1 owners.
 impl<K: Drop, V: Drop, P: Drop, A: Allocator> Clone for Piece<K, V, P, A> {
     ghost is_clone = { λ piece clone. clone ≡ piece };
 
@@ -143,7 +143,7 @@ impl<K, V, P, A: Allocator> PieceRef<K, V, P, A> {
         PieceRef { piece, number }
     }
 
-    /// The number of its insertion into a keeper, from 1 up; 0, where it was made of a piece.
+    /// Gives the number of the reference's insertion into a keeper, from 1 up. It is 0 if the reference was made of a piece.
     pub fn number(&self) -> u64
         ensures { result ≡ self.now.number }
     {

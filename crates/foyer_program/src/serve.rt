@@ -103,8 +103,8 @@ fn answer_fault<W: Write + Drop>(mut output: W, kind: ErrorKind) -> u8 {
     STATUS_FAULT
 }
 
-// Builds a store over a device and I/O engines, and answers the input's lines. Where it can't be built, the fault comes back
-// beside what failed, and the output.
+// Builds a store over a device and I/O engines, and answers the input's lines. If the store can't be built, the call gives back the fault,
+// what failed, and the output.
 fn serve_over<L, T, I, D, R, W>(
     rt: T,
     alloc: Global,
@@ -168,11 +168,12 @@ fn memory(alloc: Global, capacity: usize) -> Result<SharedMemoryIoEngineConfig<G
     SharedMemoryIoEngineConfig::new(alloc, engine)
 }
 
-/// Runs the program over the words `DIR CAPACITY BLOCK`, and gives its exit status: 0, or 1 where a fault or a bad line was
-/// printed, an input or output failed, or the end's close was refused, or 2 for bad words. `--version` alone prints the version.
+/// Runs the program over the words `DIR CAPACITY BLOCK`, and gives its exit status, which is 0, 1 or 2. The status is 1 if a fault or a bad
+/// line was printed, an input or output failed, or the close at the end was refused. It is 2 for bad words. `--version` alone prints the
+/// version.
 ///
-/// Each line of the input is answered by one line. Answers are written out before more input is asked for. Where the directory
-/// can't be opened, a line of `errors` names it and what failed, beside the fault that is answered.
+/// Each line of the input is answered by one line. Answers are written out before more input is asked for. If the directory can't be opened,
+/// a line of `errors` names it and what failed. The fault is answered as well.
 pub fn serve<L, T, B, R, W, E>(
     rt: T,
     alloc: Global,

@@ -38,7 +38,7 @@ const KEEPER_SHARDS: usize = 64;
 // How many threads ask at most.
 const MOST_THREADS: u64 = 1024;
 
-/// Printed where the arguments are bad.
+/// The text that is printed if the arguments are bad.
 pub const USAGE: &str = "usage: foyersoak DIR CAPACITY BLOCK THREADS CALLS SEED CORES\n";
 
 /// What threads asked and found: how many calls they made, loads that were answered by a value, answers that can't be right, and
@@ -256,9 +256,10 @@ fn print_found<W: Write, E: Write>(output: &mut W, errors: &mut E, found: Found)
     Ok(1)
 }
 
-/// Runs the words `DIR CAPACITY BLOCK THREADS CALLS SEED CORES`: so many threads ask one store of so many cores, each as many calls, of
-/// keys of its own, and judge each answer by what they put last. Gives the exit status: 0, or 1 where an answer was wrong, a call was
-/// refused or the store couldn't be built, or 2 for bad words. A value that an earlier run left in the directory may be found.
+/// Runs the words `DIR CAPACITY BLOCK THREADS CALLS SEED CORES`. This many threads ask one store of this many cores. Each thread makes this
+/// many calls, for keys of its own, and judges each answer by what it put last. The call gives the exit status: 0, or 2 for bad words. The
+/// status is 1 if an answer was wrong, a call was refused or the store couldn't be built. A value that an earlier run left in the directory
+/// may be found.
 pub fn soak<L, T, B, W, E>(
     rt: T,
     alloc: Global,

@@ -39,7 +39,7 @@ pub struct EngineBuildContext<I: Drop, T: Clock> {
     pub recover_mode: RecoverMode,
     /// What gives the moment.
     pub clock: T,
-    /// The seed of the generator that chooses a block where no picker picks one.
+    /// The seed of the generator that chooses a block if no picker picks one.
     pub generator: u64,
 }
 
@@ -116,8 +116,8 @@ pub trait EngineConfig<R: Copy, X: Drop, S: Drop, K: Eq, V, P>: Sized + Drop {
     fn is_noop(&self) -> bool
         ensures { result ≡ keeps_nothing self.now };
 
-    /// Divides the device, and gives the workers of its recovery, which aren't started: a trait's method can't start threads whose
-    /// types are parameters. None where one thread is enough. Refused as the engine's own config says.
+    /// Divides the device, and gives the workers of its recovery. It doesn't start them: a trait's method can't start threads whose types are
+    /// parameters. It gives no workers if one thread is enough. It is refused as the engine's own config says.
     fn begin(
         self,
         rt: R,

@@ -80,8 +80,7 @@ pub record IsReplied {X : Type 0} (says : ReplyBrief → Result X Error) (old ne
   pub before : new.before ≡ old.newest
   pub said : answered ≡ says answer
 
--- The call made one step, noted it, and answered what its brief says; or, where notes are kept, one found no room, and nothing was
--- noted.
+-- The call made one step, noted it, and answered what its brief says. Or, if notes are kept, a note found no room, and nothing was noted.
 abbrev pub IsAnsweredAs : {X : Type 0} → (keeps : Bool) → (ReplyBrief → Result X Error) → SessionState → SessionState → StepBrief → Result X Error → Type 0
 IsAnsweredAs keeps says old new given answered = IsReplied says old new given answered ⊎ ((keeps ≡ true) × (answered ≡ Err error.Memory) × (new ≡ old))
 
@@ -99,7 +98,7 @@ module _ {K V P A : Type 0} where
   IsLoadOf (reply.Refused kind back) answered = answered ≡ Err (error_of kind)
   IsLoadOf other answered = answered ≡ Err error.Unsupported
 
-  -- a look-up's ticket, or its reply where it has none
+  -- a look-up's ticket, or its reply if it has no ticket
   abbrev pub IsTicketOf : Reply K V P A → Result Ticket (Reply K V P A) → Type 0
   IsTicketOf given (Ok ticket) = given ≡ reply.Read ticket
   IsTicketOf given (Err answer) = (answer ≡ given) × (IsRead (reply_brief given) → ⊥)
@@ -147,7 +146,7 @@ module _ {K V P A : Type 0} (is_key is_value : List ℕ → Bool) (key_of : K �
     pub said : IsLoadAs answer answered
     pub pair : IsPairOf (step.LoadEnd ticket came) answered
 
-  -- so it ended; or, where notes are kept, nothing was noted
+  -- the load ended so; or, if notes are kept, nothing was noted
   abbrev pub IsEndOf : (keeps : Bool) → SessionState → SessionState → Ticket → Result (Vec ℕ A) Error → Result (Load K V P A) Error → Type 0
   IsEndOf keeps old new ticket came answered =
       IsEndedWith old new ticket came answered ⊎ ((keeps ≡ true) × (answered ≡ Err error.Memory) × (new ≡ old))
@@ -165,8 +164,8 @@ module _ {K V P A : Type 0} (is_key is_value : List ℕ → Bool) (key_of : K �
     pub read : read_by ticket came
     pub pair : IsPairOf (step.LoadEnd ticket came) answered
 
-  -- A load makes one step, or two where it reads, and answers what their briefs say, and an entry only of the bytes that it read; or,
-  -- where notes are kept, nothing was noted.
+  -- A load makes one step, or two if it reads. It answers what their briefs say, and an entry only of the bytes that it read. Or, if notes
+  -- are kept, nothing was noted.
   abbrev pub IsLoaded : (read_by : Ticket → Result (Vec ℕ A) Error → Type 0) → (keeps : Bool) → SessionState → SessionState → (hash : ℕ) → (throttled : Bool) → Result (Load K V P A) Error → Type 0
   IsLoaded read_by keeps old new hash throttled answered =
       IsLookedUp old new hash throttled answered ⊎ (IsCutShort old new hash throttled answered

@@ -80,7 +80,7 @@ abbrev pub destroyed_as : Option ErrorKind → Result (Unit {0}) Error
 destroyed_as None = Ok tt
 destroyed_as (Some kind) = Err (error_of kind)
 
--- and what one clean of it is answered as: the outcome of all, where this was the last
+-- and what one clean of it is answered as: the outcome of all cleans, if this one was the last
 abbrev pub cleaned_as : ReplyBrief → Option (Result (Unit {0}) Error)
 cleaned_as (replied.Destroyed first) = Some (destroyed_as first)
 cleaned_as (replied.Refused kind) = Some (Err (error_of kind))
@@ -98,8 +98,8 @@ pub record BringsClean (came : ℕ → Result (Unit {0}) Error → Type 0) (bloc
 abbrev pub ended_as : Option (Result (Unit {0}) Error) → Result (Unit {0}) Error
 ended_as outcome = unwrap_or outcome (Err error.Unsupported)
 
--- The same of the last block's clean, behind which the destroy is answered as the reply says. So it goes well only where that
--- clean's reply says that the destroy ended, and no clean failed.
+-- The same of the last block's clean. After that clean the destroy is answered as the clean's reply says. So the destroy goes well only if
+-- the reply says that the destroy ended, and no clean failed.
 pub record EndsWithClean (came : ℕ → Result (Unit {0}) Error → Type 0) (block : ℕ) (session : SessionState) (answered : Result (Unit {0}) Error) : Type 0 where
   pub outcome : Result (Unit {0}) Error
   pub answer : ReplyBrief
@@ -118,13 +118,13 @@ abbrev pub early_error : Early → Error
 early_error (early.Refused why) = error_of why
 early_error (early.Closed seen) = error.Closed
 
--- The newest step is this one, and was refused so; or, where notes are kept, one finds no room for it; or the bell was seen closed.
+-- The newest step is this one, and was refused so. Or, if notes are kept, a note finds no room for it. Or the bell was seen closed.
 abbrev pub IsEarly : (keeps : Bool) → StepBrief → SessionState → Early → Type 0
 IsEarly keeps given session (early.Refused why) =
     (session.newest ≡ Some (record { step = given; reply = replied.Refused why })) ⊎ ((keeps ≡ true) × (why ≡ kind.Memory))
 IsEarly keeps given session (early.Closed seen) = Unit {0}
 
--- A destroy hasn't begun: its first step is the newest, and was refused so; or, where notes are kept, one finds no room for it.
+-- A destroy hasn't begun. Its first step is the newest, and was refused so. Or, if notes are kept, a note finds no room for it.
 abbrev pub IsUnbegun : (keeps : Bool) → SessionState → Error → Type 0
 IsUnbegun keeps session e =
     ((keeps ≡ true) × (e ≡ error.Memory))

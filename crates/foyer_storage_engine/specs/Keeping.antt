@@ -10,7 +10,7 @@ use Rattle.foyer_storage_engine.specs.Answering.{IsAnsweredAs, enqueued_as}
 use Rattle.foyer_storage_engine.specs.declared.engine.Enqueued.{Enqueued}
 use Rattle.foyer_storage_engine.specs.declared.engine.Enqueued.TheVariants as enqueued
 
--- The piece is put into the map under its number where it is queued, and else the map stays.
+-- The piece is put into the map under its number if it is queued. Else the map stays.
 abbrev pub IsKeptWhereQueued : {K V P : Type 0} → (K → K → Bool) → PieceMap K V P → PieceMap K V P → Referred K V P → Result Enqueued Error → Type 0
 IsKeptWhereQueued eq old new held (Ok enqueued.Queued) = ChangesAt eq old new held.piece.hash held.piece.key (Some held)
 IsKeptWhereQueued eq old new held answered = HoldsSame eq old new

@@ -3,7 +3,7 @@ use Rattle.std.specs.Prelude.{◌≡◌, ◌⊎◌, ◌<◌, ◌≤◌, ◌-◌,
 use Rattle.foyer_storage_engine.specs.declared.engine.wait_table.OpenWait.{OpenWait}
 use Rattle.foyer_storage_engine.specs.declared.engine.wait_table.WaitTable.{WaitTable}
 
--- where a wait of this number stands
+-- the place of the wait with this number
 abbrev pub place_of : List OpenWait → (id : ℕ) → Option ℕ
 place_of waiting id = position (λ wait. wait.id == id) waiting
 

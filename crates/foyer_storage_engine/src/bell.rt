@@ -7,8 +7,8 @@ use std::hint::spin_loop;
 use std::mem;
 use std::sync::{Condvar, Mutex, Wait};
 
-// How often a thread looks at a bell or at its wait before it sleeps: some 25 microseconds, or 60 where the processor pauses for longer.
-// A small batch takes less, and so does what it costs to sleep and to be woken.
+// How often a thread looks at a bell or at its wait before it sleeps. The looks take about 25 microseconds, or 60 if the processor pauses for
+// longer. A small batch takes less, and so does what it costs to sleep and to be woken.
 pub(crate) const LOOKS: u32 = 1000;
 
 /// What shows that a bell was closed, behind this count: only who waited at it has one.
@@ -83,8 +83,8 @@ impl Moves {
     }
 }
 
-/// A count of moves, which threads share by reference. A thread remembers the count, tries its step, and where it can't
-/// it waits for a move since: so none between the two is missed. Each call takes the bell's lock, and no other.
+/// A count of moves, which threads share by reference. A thread remembers the count and tries its step. If it can't make the step, it waits
+/// for a move since then. So it misses no move between the two. Each call takes the bell's lock, and no other.
 pub struct Bell {
     moves: Mutex<Moves>,
     moved: Condvar,
@@ -125,7 +125,7 @@ impl Bell {
         lock_spinning(&self.moves, rt).count
     }
 
-    // What a wait gives, where it may end; None also where another thread is at the bell.
+    // Gives what a wait gives, if the wait may end. It also gives None if another thread is at the bell.
     fn look_past(&self, seen: u64) -> Option<Option<BellClosed>> {
         let Some(moves) = self.moves.try_lock() else {
             return None;

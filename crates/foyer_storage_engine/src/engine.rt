@@ -78,8 +78,8 @@ fn ticket_of<K: Drop, V: Drop, P: Drop, A: Allocator>(
     }
 }
 
-/// An engine that threads share by reference: a core behind one lock, disks that loads read from, each behind another, bells
-/// that are rung where a step may let another thread go on, and a gate that each access passes before it.
+/// An engine that threads share by reference. It has a core behind one lock, and disks that loads read from, each behind another lock. Its
+/// bells are rung when a step may let another thread go on. Each access passes the engine's gate first.
 pub struct BlockEngine<L, K, V, P, A, E, C, D, G, N>
 where
     L: Kinds,
@@ -254,8 +254,8 @@ where
         enqueued_of(reply)
     }
 
-    // Queues a piece, and puts it into a keeper's shard where it is queued, under the shard's next number. A piece that isn't queued
-    // replaces nothing.
+    // Queues a piece. If it is queued, it is put into a keeper's shard under the shard's next number. A piece that isn't queued replaces
+    // nothing.
     fn enqueue_into(
         &self,
         rt: &impl Wait,
@@ -304,9 +304,9 @@ where
         self.enqueue_into(rt, session, &mut lock_spinning(lock, rt), piece, size)
     }
 
-    /// Queues a piece, and keeps it in this keeper where it is queued; `size` is its estimated size in bytes. The keeper's shard
-    /// is locked from before the core's step until after it: no look-up and no release comes between. `Closed`, `Memory` and
-    /// `SequenceEnd` leave the engine as it was, and a piece that isn't queued replaces none in the keeper.
+    /// Queues a piece, and keeps it in this keeper if it is queued. `size` is its estimated size in bytes. The keeper's shard is locked from
+    /// before the core's step until after it, so that no look-up and no release comes between. Errors: `Closed`, `Memory` and `SequenceEnd`,
+    /// which leave the engine as it was. A piece that isn't queued replaces none in the keeper.
     pub fn enqueue_kept(
         &self,
         rt: &impl Wait,
@@ -342,7 +342,7 @@ where
         deleted_of(reply)
     }
 
-    /// Whether a hash is indexed. `SequenceEnd` where no step is left; `Memory` only where notes are kept, and one finds no room.
+    /// Says whether a hash is indexed. Errors: `SequenceEnd` if no step is left; `Memory` only if notes are kept, and one finds no room.
     pub fn may_contains(&self, rt: &impl Wait, session: &mut Session<L>, hash: u64) -> Result<bool>
         requires { 0 < session.old.shares.parts }
         ensures answer { IsAnsweredAs N.keeps asked_as session.old session.new (asked.MayContains hash) result }
@@ -393,10 +393,10 @@ where
         self.load_by(rt, session, hash, throttled, 0)
     }
 
-    /// Looks a hash up, reads what it stands for, and gives its outcome. The caller says whether the device is throttled:
-    /// then nothing is read; and which disk to read from, by a number that is counted modulo how many there are. No lock but
-    /// that disk's is held during the read. `Io` where the read failed, `Memory` where it or the entry finds no memory, `Parse`
-    /// and `Unsupported` where the entry isn't readable, `SequenceEnd` where no step is left.
+    /// Looks a hash up, reads what it stands for, and gives its outcome. The caller says whether the device is throttled: if it is, nothing
+    /// is read. The caller also says which disk to read from, by a number that is counted modulo how many disks there are. No lock except
+    /// that disk's is held during the read. Errors: `Io` if the read failed; `Memory` if the read or the entry finds no memory; `Parse` and
+    /// `Unsupported` if the entry isn't readable; `SequenceEnd` if no step is left.
     pub fn load_by(
         &self,
         rt: &impl Wait,

@@ -26,7 +26,7 @@ use foyer_policy_keeper::keeper::shard::{Reserved, Shard};
 use foyer_policy_piece::keeper::Piece;
 use std::alloc::Allocator;
 
-/// Puts the piece where the reply says that it is queued.
+/// Puts the piece if the reply says that it is queued.
 pub fn put_where_queued<K: Eq + Drop, V: Drop, P: Drop, A: Allocator + Clone>(
     shard: &mut Shard<K, V, P, A>,
     reserved: Reserved<K, V, P, A>,
@@ -41,7 +41,7 @@ pub fn put_where_queued<K: Eq + Drop, V: Drop, P: Drop, A: Allocator + Clone>(
     }
 }
 
-// The step, or a refusal where its note found no room.
+// Makes the step, or gives a refusal if its note found no room.
 fn step<L, K, V, P, A, E, C, N>(
     locked: &mut Locked<L, K, V, P, A, E, C, N>,
     session: &mut Session<L>,
@@ -70,10 +70,9 @@ where
     }
 }
 
-/// Queues a piece in the core, and puts it into the keeper's shard where it is queued, under the shard's next number; the step
-/// carries the reference of that number. Room and number are made first: `Memory` and `SequenceEnd` leave the core, the session
-/// and what is kept as they were. The caller holds the shard's lock from before the core's until after it, so that no look-up and
-/// no release comes between.
+/// Queues a piece in the core. If it is queued, it is put into the keeper's shard under the shard's next number, and the step carries the
+/// reference of that number. Room and number are made first: `Memory` and `SequenceEnd` leave the core, the session and what is kept as they
+/// were. The caller holds the shard's lock from before the core's until after it, so that no look-up and no release comes between.
 pub fn enqueue<L, K, V, P, A, E, C, N>(
     shard: &mut Shard<K, V, P, A>,
     locked: &mut Locked<L, K, V, P, A, E, C, N>,

@@ -49,7 +49,7 @@ impl<K, V, P, A: Allocator> Debug for Load<K, V, P, A> {
 }
 
 impl<K: Drop, V: Drop, P: Drop, A: Allocator> Load<K, V, P, A> {
-    /// The entry, where one was read from the device.
+    /// Gives the entry, if one was read from the device.
     pub fn entry(self) -> Option<(K, V, Populated)>
         ensures { result ≡ entry_of self }
     {
@@ -63,7 +63,7 @@ impl<K: Drop, V: Drop, P: Drop, A: Allocator> Load<K, V, P, A> {
         }
     }
 
-    /// Key and value of the entry, where one was read from the device.
+    /// Gives key and value of the entry, if one was read from the device.
     pub fn kv(self) -> Option<(K, V)>
         ensures { result ≡ kv_of self }
     {
@@ -105,8 +105,8 @@ fn is_of<K: Eq, V, P, A: Allocator>(answer: &Load<K, V, P, A>, key: &K) -> bool
     }
 }
 
-/// What a store's load of a key gives: the keeper's piece, where there is one, as `Piece` of age `Young`; else the
-/// engine's answer, of which one with another key is `Miss`.
+/// Gives what a store's load of a key gives. If the keeper has a piece, that is the piece, as `Piece` of age `Young`. Else it is the engine's
+/// answer, but an answer with another key becomes `Miss`.
 pub fn decide_load<K: Eq + Drop, V: Drop, P: Drop, A: Allocator>(
     key: &K,
     kept: Option<Piece<K, V, P, A>>,

@@ -252,7 +252,7 @@ where
         unreachable!()
     }
 
-    // Queues a piece, and puts it into a keeper's shard where it is queued, under the shard's next number.
+    // Queues a piece. If it is queued, it is put into a keeper's shard under the shard's next number.
     #[tactic(auto, using(crate::proofs::HistoryLemmas::nil_is))]
     fn enqueue_into(
         &self,

@@ -372,7 +372,7 @@ where
         }
     }
 
-    // Writes the blocks of a batch, until it asks for none. Where no block is clean one is reclaimed.
+    // Writes the blocks of a batch, until the batch asks for none. If no block is clean, one is reclaimed.
     #[tactic(auto, using(crate::proofs::HistoryLemmas::nil_is, crate::proofs::HistoryLemmas::goes_on, crate::proofs::HistoryLemmas::goes_self))]
     fn write_batch<E, C>(
         &mut self,

@@ -36,7 +36,7 @@ use Rattle.foyer_storage_local.specs.declared.load.Load.TheVariants as load
 abbrev pub KeepsLies : {D : Type 0} → (lies : D → ℕ → ℕ → ℕ → Type 0) → (faults : D → ℕ) → (old new : D) → Type 0
 KeepsLies lies faults old new = ((b o n : ℕ) → lies old b o n → lies new b o n) × (faults old ≤ faults new)
 
--- From one core and disk to others by events of this kind, each access of which that failed has a cause, where the disk is known.
+-- If the disk is known, events of this kind lead from one core and disk to others, and each of their accesses that failed has a cause.
 abbrev pub LeadsForCause : {K V P A D : Type 0} → (is_known : D → Type 0) (byte_at : D → ℕ → ℕ → ℕ) (lies : D → ℕ → ℕ → ℕ → Type 0) (faults : D → ℕ) → (List (WorldEvent Content) → Type 0) → Meaning K V P
     → (old : Core K V P A) (old_disk : D) (new : Core K V P A) (new_disk : D) → Type 0
 LeadsForCause is_known byte_at lies faults Are m old old_disk new new_disk =
@@ -81,13 +81,13 @@ module _ {K V P A : Type 0} (m : Meaning K V P) where
   IsRefusedOnlyAs is_error core said =
       (s : Settings) → AreValid s → (it : State Content) → IsStateOf m s core it → IfErr said (λ e. is_error e ≡ true)
 
-  -- and where it is closed, the call is refused as closed, or since no step is left
+  -- and if the core is closed, the call is refused as closed, or since no step is left
   abbrev pub IsRefusedIfClosed : {X : Type 0} → Core K V P A → Result X Error → Type 0
   IsRefusedIfClosed core said =
       core.closed ≡ true → (s : Settings) → AreValid s → (it : State Content) → IsStateOf m s core it
       → (said ≡ Err error.Closed) ⊎ (said ≡ Err error.SequenceEnd)
 
-  -- And a load is answered Io only where the index has an address of the hash, of which it isn't sure that a read of it came.
+  -- And a load is answered Io only if the index has an address of the hash, and it isn't sure that a read of that address came.
   abbrev pub IsIoForCause : (hash : ℕ) → (came : ℕ → ℕ → ℕ → Type 0) → Core K V P A → Result (Load K V) Error → Type 0
   IsIoForCause hash came core said =
       said ≡ Err error.Io → (s : Settings) → AreValid s → (it : State Content) → IsStateOf m s core it
@@ -112,7 +112,7 @@ module _ {K V P A : Type 0} (m : Meaning K V P) where
   abbrev pub IsKeyMissedForCause : (K → K → Bool) → K → ℕ → Core K V P A → (ℕ → ℕ → ℕ) → Result (Load K V) Error → Type 0
   IsKeyMissedForCause eq key hash core bytes said = OfPut m hash core bytes (λ x. IsKeysEntryOrFault m eq key x said)
 
-  -- Throttled is answered, in every history that led to this core and these bytes, only where the device is said to be
+  -- Throttled is answered, in every history that led to this core and these bytes, only if the device is said to be throttled
   abbrev pub IsThrottledIfSaid : Bool → Core K V P A → (ℕ → ℕ → ℕ) → Result (Load K V) Error → Type 0
   IsThrottledIfSaid throttled core bytes said =
       (s : Settings) (sound : AreValid s) (first : World Content) (events : List (WorldEvent Content)) → IsHistory m s sound first events core bytes

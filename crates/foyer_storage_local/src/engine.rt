@@ -29,8 +29,8 @@ mod calls;
 mod destroy;
 mod wait;
 
-/// A core with its disk, with what the marks of its batches are appended to, and with what gives the hashes of keys. What is
-/// said of a disk's bytes is said where they are known: those of memory are, those of a system's files aren't.
+/// A core with its disk, with what the marks of its batches are appended to, and with what gives the hashes of keys. The contracts say
+/// something of a disk's bytes only if these are known. The bytes of memory are known, those of a system's files aren't.
 pub struct LocalEngine<
     K,
     V,
@@ -129,10 +129,9 @@ where
     E: EvictionPicker,
     C: StorageFilterCondition,
 {
-    /// Opens an engine with what the disk's blocks give in the mode, without a log of deletes, so that a delete is
-    /// forgotten by the next opening; `env` has its pickers and its generator. `Config` where the settings don't go
-    /// together; `Recover` where a read failed in `Strict`; `SequenceEnd` where what was found has the last sequence;
-    /// `Memory` at any time.
+    /// Opens an engine with what the disk's blocks give in the mode. It has no log of deletes, so a delete is forgotten by the next opening.
+    /// `env` has its pickers and its generator. Errors: `Config` if the settings don't go together; `Recover` if a read failed in `Strict`;
+    /// `SequenceEnd` if what was found has the last sequence; `Memory` at any time.
     pub fn with_disk(
         alloc: A,
         hasher: H,
@@ -175,11 +174,11 @@ where
     E: EvictionPicker,
     C: StorageFilterCondition,
 {
-    /// Opens an engine with what the disk's blocks give in the mode and with the marks of deletes that its log has listed;
-    /// `env` has its pickers and its generator. The marks of each batch are appended to the log before the batch ends; one
-    /// whose append fails ends all the same, so that its deletes may be forgotten by the next opening. A log is asked only
-    /// where the settings ask for one. `Config` where the settings don't go together; `Recover` where a read failed in
-    /// `Strict`; `SequenceEnd` where what was found, or a mark, has the last sequence; `Memory` at any time.
+    /// Opens an engine with what the disk's blocks give in the mode, and with the marks of deletes that its log has listed. `env` has its
+    /// pickers and its generator. The marks of each batch are appended to the log before the batch ends. A batch whose append fails ends all
+    /// the same, so its deletes may be forgotten by the next opening. A log is asked only if the settings ask for one. Errors: `Config` if
+    /// the settings don't go together; `Recover` if a read failed in `Strict`; `SequenceEnd` if what was found, or a mark, has the last
+    /// sequence; `Memory` at any time.
     pub fn with_log(
         alloc: A,
         hasher: H,
@@ -260,7 +259,7 @@ where
         (disk, log)
     }
 
-    /// Where its memory comes from.
+    /// Gives the allocator that its memory comes from.
     pub fn allocator(&self) -> &A
         ensures { result.now ≡ self.now.alloc }
     {

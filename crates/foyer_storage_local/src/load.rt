@@ -38,7 +38,7 @@ pub enum Load<K, V> {
 }
 
 impl<K: Drop, V: Drop> Load<K, V> {
-    /// The entry, where there is one.
+    /// Gives the entry, if there is one.
     pub fn entry(self) -> Option<(K, V, Populated)>
         ensures { result ≡ entry_of self }
     {
@@ -52,7 +52,7 @@ impl<K: Drop, V: Drop> Load<K, V> {
         }
     }
 
-    /// Key and value of the entry, where there is one.
+    /// Gives key and value of the entry, if there is one.
     pub fn kv(self) -> Option<(K, V)>
         ensures { result ≡ kv_of self }
     {

@@ -22,8 +22,8 @@ settings_of s blocks shards = record {
   tombstone_log = s.tombstone_log;
 }
 
--- The settings of a core of so many blocks of these sizes. The index has the shards that are given, and where none are the
--- default of these blocks.
+-- The settings of a core of this many blocks of these sizes. The index has the shards that are given. If none are given, it has the default
+-- of these blocks.
 pub record ArePlanned (s : EngineSizes) (blocks : ℕ) (planned : Settings) : Type 0 where
   pub sizes : planned ≡ settings_of s blocks planned.indexer_shards
   pub shards : MatchOption s.indexer_shards (IsDefaultShardCount blocks (page_up s.block_size) planned.indexer_shards)
@@ -47,7 +47,8 @@ pub record AreSizes (s : EngineSizes) : Type 0 where
   pub some_recoverer : 0 < s.recover_concurrency
   pub some_load_engine : 0 < s.load_engines
 
--- The device has room for the log, and for as many blocks as there are flushers, but for no more than can be numbered.
+-- The device has room for the log, and for at least as many blocks as there are flushers. It has room for no more blocks than can be
+-- numbered.
 pub record HasRoom (s : EngineSizes) (free log : ℕ) : Type 0 where
   pub log_fits : log ≤ free
   pub enough : s.flushers ≤ blocks_held s free log

@@ -10,16 +10,16 @@ use foyer_core_settings::settings::{
 use foyer_device_page::error::{Error, Result};
 use foyer_format_record::block::buffer::whole_pages;
 
-/// The bytes of a block where none are given: 16 MiB.
+/// The bytes of a block if none are given: 16 MiB.
 pub const DEFAULT_BLOCK_SIZE: usize = 16 * 1024 * 1024;
 
-/// The workers that read the blocks at an opening where none are given.
+/// The workers that read the blocks at an opening if none are given.
 pub const DEFAULT_RECOVER_CONCURRENCY: usize = 8;
 
-/// The I/O engines that loads read through where no number is given.
+/// The I/O engines that loads read through if no number is given.
 pub const DEFAULT_LOAD_ENGINES: usize = 1;
 
-/// How often a put that finds the queue full looks again where no number is given: it never waits.
+/// How often a put that finds the queue full looks again if no number is given: it never waits.
 pub const DEFAULT_ENQUEUE_PATIENCE: u32 = 0;
 
 /// The sizes of an engine, as its config gives them: any numbers; `check` refuses those that don't go together.
@@ -43,9 +43,9 @@ pub struct EngineSizes {
     pub reclaimers: u32,
     /// The bytes of all flushers' buffers together, of which each has an equal share of whole pages.
     pub buffer_pool_size: usize,
-    /// A piece isn't taken, and its hash is deleted, where the sizes of those queued sum to more than this, in bytes.
+    /// If the sizes of the queued pieces sum to more than this, in bytes, a piece isn't taken, and its hash is deleted.
     pub submit_queue_size_threshold: usize,
-    /// A reclaim may begin where fewer blocks than this are clean, and also where a flusher waits for one.
+    /// A reclaim may begin if fewer blocks than this are clean, and also if a flusher waits for one.
     pub clean_block_threshold: usize,
     /// Whether deletes are logged.
     pub tombstone_log: bool,
@@ -110,10 +110,10 @@ impl EngineSizes {
         }
     }
 
-    /// `Config` where the sizes don't go together, whatever the device: a block or an index of no bytes, a block of more than
-    /// 2^32 bytes, an index that isn't smaller than a block, both in whole pages, no flusher, a share of the pool for each
-    /// flusher of less than a page, no reclaimer, 2^32 flushers and reclaimers together, no shard where a number is given, no
-    /// worker at an opening, or no I/O engine for loads.
+    /// Checks that the sizes go together, whatever the device. Errors: `Config` for a block or an index of no bytes, a block of more than
+    /// 2^32 bytes, an index that isn't smaller than a block when both are rounded up to whole pages, no flusher, a share of the pool for each
+    /// flusher of less than a page, no reclaimer, 2^32 flushers and reclaimers together, no shard if a number is given, no worker at an
+    /// opening, or no I/O engine for loads.
     pub fn check(&self) -> Result<()>
         ensures sound { IsOk result ↔ AreSizes self.now }
         ensures refused { IsOkUnless result Error.Config }
@@ -129,9 +129,9 @@ impl EngineSizes {
         self.settings(self.flushers).check()
     }
 
-    /// The settings of a core on a device that has `free` bytes free, of which the log of deletes takes `log`, 0 where there is
-    /// none; what is less than a block at their end stays free. Refused in this order: `Config` as by `check`; `NoSpace` where
-    /// the log takes more than is free, and nowhere else; `Config` where there are fewer blocks than flushers, or 2^32 or more.
+    /// Gives the settings of a core on a device that has `free` bytes free. The log of deletes takes `log` of them, 0 if there is no log.
+    /// What is less than a block at their end stays free. Errors, in this order: `Config` as by `check`; `NoSpace` if the log takes more than
+    /// is free, and only then; `Config` if there are fewer blocks than flushers, or 2^32 or more.
     pub fn plan(&self, free: usize, log: usize) -> Result<Settings>
         ensures plan { IfOk result (ArePlanned self.now (blocks_held self.now free log)) }
         ensures sound { IsOk result ↔ (AreSizes self.now × HasRoom self.now free log) }

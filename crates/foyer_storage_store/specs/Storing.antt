@@ -23,7 +23,7 @@ use Rattle.foyer_storage_engine.specs.declared.engine.Enqueued.TheVariants as en
 use Rattle.foyer_storage_engine.specs.declared.load.Load.{Load}
 use Rattle.foyer_storage_engine.specs.declared.load.Load.TheVariants as load
 
--- A load looks its hash up, throttled only where there is a limit of reads; an entry that it answers is the pair of what it read, and it was
+-- A load looks its hash up, and is throttled only if there is a limit of reads. An entry that it answers is the pair of what it read, and was
 -- read so.
 pub record IsLoadedUnder {K V P A : Type 0} (is_key is_value : List ℕ → Bool) (key_of : K → List ℕ) (value_of : V → List ℕ) (read_by : Ticket → Result (Vec ℕ A) Error → Type 0) (limits : Throttle)
     (old new : SessionState) (hash : ℕ) (answered : Result (Load K V P A) Error) : Type 0 where
@@ -38,7 +38,7 @@ IsKept eq key (Ok (load.Piece piece populated)) = (populated.age ≡ age.Young) 
 IsKept eq key (Err e) = e ≡ error.Memory
 IsKept eq key other = ⊥
 
--- what a store makes of its engine's answer, where the keeper has nothing
+-- what a store makes of its engine's answer, if the keeper has nothing
 abbrev pub IsDecided : {K V P A : Type 0} → (K → K → Bool) → K → Result (Load K V P A) Error → Result (Load K V P A) Error → Type 0
 IsDecided eq key (Ok answer) given = given ≡ Ok (decided_load eq key None answer)
 IsDecided eq key (Err e) given = given ≡ Err e
@@ -48,7 +48,7 @@ abbrev pub deleted_for : Result (Unit {0}) Error → Result Enqueued Error
 deleted_for (Ok done) = Ok enqueued.Deleted
 deleted_for (Err e) = Err e
 
--- how many bytes a piece is estimated to take: both codes together, saturating, where they can be encoded
+-- how many bytes a piece is estimated to take: both codes together, saturating, if they can be encoded
 abbrev pub IsEstimated : (is_encodable : Bool) → (encoding : List ℕ) → (is_key_encodable : Bool) → (key : List ℕ) → (size : ℕ) → Type 0
 IsEstimated is_encodable encoding is_key_encodable key size =
     is_key_encodable ≡ true → is_encodable ≡ true → size ≡ min (length encoding + length key) (2 ^ 64 - 1)
@@ -79,7 +79,7 @@ pub record IsAdmissionUnder {C : Type 0} (may : C → IoState → ℕ → ℕ �
   pub unlimited : limits.write_throughput ≡ None → limits.write_iops ≡ None → as_nanos io.write_throttle ≡ 0
   pub admitted : IsAdmission may admission io hash size verdict
 
--- A piece that is forced goes to the engine; another one where the filter admits it, and else its hash is deleted there.
+-- A piece that is forced goes to the engine. Another piece goes there if the filter admits it. Else its hash is deleted there.
 abbrev pub IsStored : (StorageFilterResult → Type 0) → (Result Enqueued Error → Type 0) → (Result (Unit {0}) Error → Type 0) → Bool → Result Enqueued Error → Type 0
 IsStored may_judge may_enqueue may_delete force answered =
     ((force ≡ true) × may_enqueue answered)

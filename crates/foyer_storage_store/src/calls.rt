@@ -72,7 +72,7 @@ pub trait Engine<S: Drop, K: Eq, V, P>: Drop {
     fn filter(&self, rt: &impl Wait, hash: u64, size: usize, now: u64) -> StorageFilterResult
         ensures { may_judge self.now hash size result };
 
-    /// Queues a piece, and keeps it in this keeper where it is queued; `size` is its estimated size in bytes. `Closed`, `Memory`,
+    /// Queues a piece, and keeps it in this keeper if it is queued. `size` is its estimated size in bytes. Errors: `Closed`; `Memory`;
     /// `SequenceEnd`.
     fn enqueue(
         &self,

@@ -72,7 +72,7 @@ impl<N: Drop, K: Eq, V, P, H: Drop> Debug for Store<N, K, V, P, H> {
     }
 }
 
-/// The same store. AllocError comes only where 2^63 - 1 clones are there.
+/// A clone is the same store. It fails with AllocError only if there are 2^63 - 1 clones.
 impl<N: Drop, K: Eq + Drop, V: Drop, P: Drop, H: Drop> Clone for Store<N, K, V, P, H> {
     ghost is_clone = { λ store clone. arc_value clone.shared ≡ arc_value store.shared };
 
@@ -295,9 +295,9 @@ impl<N: Drop, K: Eq + Drop, V: Drop, P: Drop, H: Drop> Store<N, K, V, P, H> {
         Ok(Enqueued::Deleted)
     }
 
-    /// What a key has, at a moment in nanoseconds: the keeper's piece, else what the engine reads; another key's is a miss. `Io` where
-    /// the read failed, `Memory` where it or the entry finds no memory, `Parse` and `Unsupported` where the entry isn't readable,
-    /// `SequenceEnd` where no step is left.
+    /// Gives what a key has, at a moment in nanoseconds: the keeper's piece, else what the engine reads. An entry of another key is a miss.
+    /// Errors: `Io` if the read failed; `Memory` if the read or the entry finds no memory; `Parse` and `Unsupported` if the entry isn't
+    /// readable; `SequenceEnd` if no step is left.
     pub fn load<S: Drop>(
         &self,
         rt: &impl Wait,
@@ -347,7 +347,7 @@ impl<N: Drop, K: Eq + Drop, V: Drop, P: Drop, H: Drop> Store<N, K, V, P, H> {
         deleted
     }
 
-    /// Whether the keeper has the key, or the engine has its hash. `SequenceEnd` where no step is left.
+    /// Says whether the keeper has the key, or the engine has its hash. Errors: `SequenceEnd` if no step is left.
     pub fn may_contains<S: Drop>(&self, rt: &impl Wait, session: &mut S, key: &K) -> Result<bool>
     where
         N: Engine<S, K, V, P>,

@@ -25,7 +25,7 @@ impl Clock for Moment {
     }
 }
 
-/// The clock of the system, which counts from where it was started.
+/// The clock of the system, which counts from when it was started.
 #[derive(Clone, Copy, Drop)]
 pub struct SystemClock<R: std::rt::Clock + Copy + Drop> {
     rt: R,

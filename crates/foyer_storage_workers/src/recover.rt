@@ -43,7 +43,7 @@ pub struct DiskRecoverer<D: Disk + Drop> {
 }
 
 impl<D: Disk + Drop> DiskRecoverer<D> {
-    /// What its blocks list. Where memory is refused, only what was listed before: whoever opens the core reads the other blocks.
+    /// Gives what its blocks list. If memory is refused, it gives only what was listed before. Whoever opens the core reads the other blocks.
     pub fn list(self, alloc: Global) -> Vec<BlockListing<Global, D>> {
         let DiskRecoverer {
             settings,

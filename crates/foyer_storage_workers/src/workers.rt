@@ -41,7 +41,7 @@ impl<H: Drop> Worker<H> for NoWorker {
     }
 }
 
-// Starts a worker's thread. AllocError, where none can be made: its part is lost then.
+// Starts a worker's thread. Errors: AllocError if no thread can be made. The worker's part is lost then.
 fn start<L, W, R>(rt: R, worker: W, hand: Hand<L>) -> Result<JoinHandle<Hand<L>>, AllocError>
 where
     L: Kinds + Send + Sync + 'static,
@@ -52,7 +52,7 @@ where
     Ok(thread::spawn(&rt, job)?)
 }
 
-// Starts a thread for each worker, with a part of the session's each. Where one can't be made those that were stay.
+// Starts a thread for each worker, with a part of the session for each. If a thread can't be made, those that were made stay.
 fn start_each<L, W, R>(
     rt: R,
     workers: Vec<W>,
@@ -126,7 +126,7 @@ impl<L: Kinds> Workers<L> {
         }
     }
 
-    /// Starts a thread for each flusher and each reclaimer. AllocError, where one can't be made: those that were stay.
+    /// Starts a thread for each flusher and each reclaimer. Errors: AllocError if a thread can't be made. Those that were made stay.
     pub fn start<F, W, R>(
         &mut self,
         rt: R,

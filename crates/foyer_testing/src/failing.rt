@@ -6,7 +6,7 @@ use foyer_device_page::error::{Error, Result};
 use foyer_io_disk::disk::Disk;
 use std::alloc::Allocator;
 
-/// Passes each call on, but for the one that is counted down to: that read gives nothing, and that write writes a front
+/// Passes each call on, except the one that is counted down to. If that call is a read, it gives nothing. If it is a write, it writes a front
 /// of its bytes.
 #[derive(Drop)]
 pub struct Failing<D: Disk + Drop> {

@@ -83,7 +83,7 @@ fn record(key: u8, hash: u64, sequence: u64, magic: &str, text: u8) -> [u8; 53] 
     bytes
 }
 
-// Of five words: key, hash, sequence, magic and text, where `FF` is a byte that no text has.
+// Makes a record of five words: key, hash, sequence, magic and text. The text `FF` stands for a byte that no text has.
 fn record_of(words: &str) -> [u8; 53] {
     let (key, rest) = cut(words);
     let (hash, rest) = cut(rest);

@@ -2,7 +2,7 @@
 use std::alloc::{AllocError, Allocator};
 use std::cell::Cell;
 
-/// Passes each call on, but for the allocation that is counted down to.
+/// Passes each call on, except the allocation that is counted down to.
 pub struct Refusing<B: Allocator> {
     inner: B,
     left: Cell<u64>,

@@ -42,7 +42,7 @@ impl Said {
         self.is_short = true;
     }
 
-    /// `Memory` where a part is missing.
+    /// Gives the text. Errors: `Memory` if a part is missing.
     pub fn text(self) -> Result<String> {
         if self.is_short {
             return Err(Error::Memory);

@@ -1,6 +1,6 @@
-//! `foyerimages`: opens directories that have a log of deletes, one after the other, and asks each for keys. A line of its input is a
-//! directory, the bytes of its capacity and of a block, and keys; each key is answered by a line, and an empty one follows. Where a
-//! directory can't be opened its fault is all. A key is its own hash, and none is compared. `soak/images.py` runs it.
+//! `foyerimages` opens directories that have a log of deletes, one after the other, and asks each for keys. A line of its input is a
+//! directory, the bytes of its capacity and of a block, and keys. Each key is answered by a line, and an empty line follows. If a directory
+//! can't be opened, its fault is all. A key is its own hash, and none is compared. `soak/images.py` runs it.
 #![tactic(auto)]
 
 use foyer_block_tombstone::block::tombstone::{TombstoneLog, log_pages};

@@ -142,8 +142,8 @@ pub(crate) fn consult<P: EvictionPicker, A: Allocator>(
     Ok(None)
 }
 
-/// Each picker is described these blocks, of such a size, in the pickers' order. `Memory` where one is refused it: those before
-/// it know the blocks then.
+/// Describes these blocks, of such a size, to each picker in order. Errors: `Memory` if a picker is refused memory. The pickers before it
+/// know the blocks then.
 pub fn init_all<P: EvictionPicker>(
     pickers: &mut [P],
     alloc: Global,

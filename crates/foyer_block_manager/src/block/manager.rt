@@ -116,8 +116,8 @@ fn is_usable<A: Allocator>(blocks: &Vec<BlockState, A>, block: BlockId) -> bool
     filling_of(blocks, block) < u64::MAX
 }
 
-// Where the clean block stands that has been clean longest of those that may still be handed out: at the front, but for
-// blocks whose count of fillings is at its end.
+// Finds the clean block that has been clean longest of those that may still be handed out, and gives its place in the list. Only blocks
+// whose count of fillings is at its end stand before it.
 fn first_usable<A: Allocator>(
     clean: &VecDeque<BlockId, A>,
     blocks: &Vec<BlockState, A>,
@@ -134,7 +134,7 @@ fn first_usable<A: Allocator>(
     None
 }
 
-// And none where none may be handed out.
+// Finds the same block, but gives None while a destroy cleans, because no block may be handed out then.
 fn next_clean<A: Allocator>(
     clean: &VecDeque<BlockId, A>,
     blocks: &Vec<BlockState, A>,
@@ -177,7 +177,7 @@ const NO_STATISTICS: BlockStatistics = BlockStatistics {
     probation: false,
 };
 
-// One more clean block, which counts where it may still be handed out.
+// Counts one more clean block, if that block may still be handed out.
 fn one_more(usable: usize, filling: u64) -> usize
     requires { usable < 2 ^ 32 }
     ensures { result ≡ usable + (if nat_lt filling last_number then 1 else 0) }
@@ -357,8 +357,8 @@ impl<A: Allocator> BlockManager<A> {
         show_evictable(pickers, info, block);
     }
 
-    /// Whether a reclaim may begin: where fewer blocks than the threshold may be handed out or a flusher waits, a reclaimer is
-    /// free, a block is evictable, and no destroy cleans.
+    /// Whether a reclaim may begin. It may if fewer blocks than the threshold may be handed out or a flusher waits. Besides, a reclaimer must
+    /// be free, a block must be evictable, and no destroy may clean.
     pub fn may_reclaim(&self) -> bool
         ensures some { result ≡ true → 0 < length self.now.evictable }
         ensures may { (s : BlockSets) → Stands self.now s
@@ -375,8 +375,9 @@ impl<A: Allocator> BlockManager<A> {
         )
     }
 
-    /// Begins the reclaim of a block, where a reclaim may begin: of the first evictable one that a picker picks, in the
-    /// order of the pickers, else of one by the generator. `None` where none may begin. `Memory` changes nothing.
+    /// Begins the reclaim of a block, if a reclaim may begin. The block is the first evictable one that a picker picks, in the order of the
+    /// pickers. If no picker picks one, the generator chooses. Gives `None` if no reclaim may begin. Errors: `Memory`, which
+    /// changes nothing.
     pub fn reclaim_begin<P: EvictionPicker, G: Rng>(
         &mut self,
         alloc: &A,

@@ -70,7 +70,7 @@ fn take_out(ids: &mut VecDeque<BlockId>, id: BlockId)
     ids.retain(|queued| *queued != id);
 }
 
-// Adds an id where it is an evictable block.
+// Adds an id if it is that of an evictable block.
 fn add_if_evictable(blocks: &[BlockState], id: BlockId, found: &mut Vec<BlockId>)
     requires { is_evictable_in blocks.now id ≡ true → vec_len found.old < vec_capacity found.old }
     ensures found { found.new.items ≡ found.old.items ++ filter (is_evictable_in blocks.now) (id ∷ []) }

@@ -68,8 +68,9 @@ impl<A: Allocator + Clone> BlocksRead<A> {
         Ok(again)
     }
 
-    // Takes in what the next block keeps, behind the `before` entries that the batch had: a batch goes into the index where it
-    // has an eighth of what went there, so that an entry is moved a few times only, however many blocks there are.
+    // Takes in what the next block keeps. It stands in the batch behind the `before` entries that were there. A batch goes into the index
+    // once it has `LEAST_GATHERED` entries and an eighth of those that went in before. So an entry is moved only a few times, however many
+    // blocks there are.
     fn take_block(
         &mut self,
         block: BlockId,
@@ -111,8 +112,8 @@ pub(crate) fn read_none<A: Allocator + Clone>(
     Ok(read)
 }
 
-// What each block keeps: by the listing that came of it, else by reading its chain. `Recover` where a failed read ends one and
-// that isn't allowed.
+// Gives what each block keeps: by the block's listing if one came, else by reading its chain. Errors: `Recover` if a failed read ends a
+// chain and that isn't allowed.
 pub(crate) fn read_blocks<A: Allocator + Clone, D: Disk>(
     alloc: &A,
     disk: &mut D,

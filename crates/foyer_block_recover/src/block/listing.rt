@@ -17,8 +17,8 @@ use foyer_io_disk::disk::Disk;
 use std::alloc::Allocator;
 use std::marker::{Model, PhantomData};
 
-/// What is kept of one block, as one reading of its chain gave it. Some disk gave it: where contracts see that disk's bytes,
-/// it is what these list, but for reads that failed. Whatever the disk, its entries lie in the block.
+/// What is kept of one block, as one reading of its chain gave it. Some disk gave it. If contracts see that disk's bytes, it is what these
+/// bytes list, except for reads that failed. Whatever the disk, its entries lie in the block.
 pub struct BlockListing<A: Allocator, D: Disk> {
     block: BlockId,
     block_size: usize,
@@ -209,8 +209,8 @@ impl<A: Allocator, D: Disk> Listings<A, D> {
         Ok(Listings { slots })
     }
 
-    /// Takes a listing in, and answers whether it did: not where one of its block was there before, nor where there is no room
-    /// for that block.
+    /// Takes a listing in, and answers whether it did. It doesn't if a listing of the same block was there before, or if there is no room for
+    /// that block.
     pub fn add(&mut self, listing: BlockListing<A, D>) -> bool
         ensures taken { OnTrue result ((slice_get self.old.slots.items listing.block ≡ Some None)
             × (self.new.slots.items ≡ slice_set self.old.slots.items listing.block (Some listing))) }

@@ -109,14 +109,13 @@ impl RecoverRunner {
         }
     }
 
-    /// Reads the indices of all blocks, one block after the other, and gives what they and the marks of deletes make of
-    /// the index, of so many shards, the next sequence and the clean blocks. Allocates a buffer of one index, what is given,
-    /// and entries that are gathered before they are inserted: 4,096 of them, or an eighth of those before, and one block's.
-    /// To order these it takes up to twice their bytes more; if that is refused, they go in unordered, which is slower.
+    /// Reads the indices of all blocks, one block after the other. From these and the marks of deletes it makes the index, of so many shards,
+    /// the next sequence and the clean blocks. It allocates a buffer of one index, what it gives, and entries that are gathered before they
+    /// are inserted. These are 4,096 entries, or an eighth of those before, and one block's. To order them it takes up to twice their bytes
+    /// more. If that is refused, they go in unordered, which is slower.
     ///
-    /// `Recover` where a read failed in `Strict`; else `SequenceEnd` where an entry that is kept, or a mark, has the last
-    /// sequence; `Memory` at any time. What is on the disk stays as it is. Whatever was read, each address that is found
-    /// lies within its block.
+    /// Errors: `Recover` if a read failed in `Strict`; else `SequenceEnd` if an entry that is kept, or a mark, has the last sequence; `Memory`
+    /// at any time. What is on the disk stays as it is. Whatever was read, each address that is found lies within its block.
     pub fn run<A: Allocator + Clone, D: Disk>(
         &self,
         alloc: &A,

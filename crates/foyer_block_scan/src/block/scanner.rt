@@ -14,12 +14,12 @@ use foyer_format_buffer::format_blob::{BlobEntryIndex, BlobIndexReader};
 use std::alloc::Allocator;
 use std::marker::Model;
 
-/// An entry that a block lists: its hash, and where its record stands in the block.
+/// An entry that a block lists: its hash, and its record's address in the block.
 #[derive(Clone, Copy, Debug, PartialEq, Eq)]
 pub struct EntryInfo {
     /// The hash of its key.
     pub hash: u64,
-    /// Where its record is.
+    /// The address of its record.
     pub addr: EntryAddress,
 }
 
@@ -113,7 +113,7 @@ fn infos_of<A: Allocator>(
     Ok(infos)
 }
 
-// Where an index at the offset ends with its records; without records the block ends with it.
+// Gives the offset at which an index and its records end. Without records the block ends with the index.
 #[tactic(auto, using(foyer_format_layout::proofs::PageLaws::pages))]
 fn blob_end(
     entries: &[BlobEntryIndex],
@@ -154,7 +154,7 @@ impl BlockScanner {
         }
     }
 
-    /// The same scan, where it stands: whoever tries a step on it can go back.
+    /// Copies the scan as it stands. A caller who tries a step on the copy can go back to the scan.
     pub fn copy(&self) -> BlockScanner
         ensures { result ≡ self.now }
     {
@@ -167,7 +167,7 @@ impl BlockScanner {
         }
     }
 
-    /// Where the next index is to be read, which is as long as an index is; `None` once the scan has ended.
+    /// Gives the offset at which the next index is to be read, or `None` once the scan has ended. The read is as long as an index.
     pub fn blob_offset(&self) -> Option<usize>
         ensures blob_offset { result ≡ self.now.blob_offset }
         ensures within { IfSome result (λ p. p + self.now.sizes.index ≤ self.now.sizes.block) }
@@ -175,9 +175,9 @@ impl BlockScanner {
         self.blob_offset
     }
 
-    /// Takes the bytes of the offset. `Some` with the entries of their index, whose offsets count from the block's
-    /// start; `None` where they are no index, or one with an entry that doesn't fit: then the scan has ended.
-    /// `Memory` leaves the scan as it was.
+    /// Takes the bytes of the offset. Gives `Some` with the entries of their index, whose offsets count from the block's start. Gives `None`
+    /// if the bytes are no index, or an index with an entry that doesn't fit. Then the scan has ended. Errors: `Memory`, which leaves the
+    /// scan as it was.
     pub fn next<A: Allocator + Clone>(
         &mut self,
         alloc: &A,

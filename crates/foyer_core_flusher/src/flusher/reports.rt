@@ -40,9 +40,9 @@ impl<K, V, P, A: Allocator + Clone> Flusher<K, V, P, A> {
         }
     }
 
-    /// Takes the result of the next issued write. After the block's last one its records enter the index. After a fault,
-    /// or where the index has to grow and can't, nothing of the batch's rest is written, and the block isn't written again
-    /// in this filling; it is evictable then, and the pickers learn of it.
+    /// Takes the result of the next issued write. After the block's last write the block's records enter the index. A batch fails after a fault,
+    /// or if the index has to grow and can't. Then nothing of its rest is written, and its block isn't written again in this filling. The block
+    /// is evictable then, and the pickers learn of it.
     pub fn wrote<E: EvictionPicker>(
         &mut self,
         is_done: bool,
@@ -113,7 +113,7 @@ impl<K, V, P, A: Allocator + Clone> Flusher<K, V, P, A> {
         Wrote::Failed
     }
 
-    /// Whether the batch has nothing left to write, and the log of deletes has answered, where there is one.
+    /// Whether the batch has nothing left to write, and the log of deletes has answered if there is one.
     pub fn is_written(&self, has_log: bool) -> bool
         ensures { IsTrue result ↔ IsWritten has_log self.now }
     {

@@ -36,8 +36,8 @@ where
     C: StorageFilterCondition,
     N: Noting,
 {
-    /// Brings what was read for a ticket and judged, as `step` does with a `LoadEnd`, and gives the buffer of the read back beside
-    /// the reply, for the next read. No buffer comes back where the read failed, or where the step that is handed back has it.
+    /// Brings what was read for a ticket and judged, as `step` does with a `LoadEnd`. Gives the buffer of the read back beside
+    /// the reply, for the next read. No buffer comes back if the read failed, or if the step that is handed back has it.
     pub fn end_judged(
         &mut self,
         session: &mut Session<L>,

@@ -210,8 +210,8 @@ impl<A: Allocator + Clone> Reclaimer<A> {
     }
 
     /// Takes the bytes of the index that is wanted, and gives the verdict on each of its entries: whether the filter admits
-    /// one of its hash and length. `None` where they are no index, or one with an entry that doesn't fit: then all is listed.
-    /// `Memory` alone, which changes nothing.
+    /// an entry of this hash and length. Gives `None` if the bytes are no index, or if they are one with an entry that
+    /// doesn't fit. Then all entries are listed. Error: `Memory` alone, which changes nothing.
     pub fn read<C: StorageFilterCondition>(
         &mut self,
         alloc: &A,
@@ -266,8 +266,8 @@ impl<A: Allocator + Clone> Reclaimer<A> {
         self.scanner.fail();
     }
 
-    /// What was listed leaves the index, each address only where its hash has that very one, and but for what was queued for
-    /// reinsertion. It compares each listed entry with each queued one.
+    /// Removes from the index what was listed, except what was queued for reinsertion. An address is only removed if its hash
+    /// has that very address. Compares each listed entry with each queued one.
     pub fn forget(&mut self, index: &mut Indexer<A>)
         ensures index { index.new.slots ≡ without_addresses index.old.slots (left_in self.old.lists.requeued.items self.old.lists.listed.items) }
         ensures forgotten { reclaiming self.new ≡ after_forget (reclaiming self.old) }
@@ -408,7 +408,7 @@ pub(crate) fn read<A: Allocator + Clone, C: StorageFilterCondition>(
     }
 }
 
-// How many records the reclaim of a block queued for reinsertion; 0 where none runs.
+// Gives how many records the reclaim of a block queued for reinsertion, and 0 if none runs.
 pub(crate) fn requeue_count<A: Allocator + Clone>(reclaims: &Reclaims<A>, block: BlockId) -> usize
     ensures { IfSome (reclaim_at reclaims.now block) (λ r. result ≡ requeue_count r) }
 {

@@ -56,7 +56,8 @@ pub trait Partition {
     fn size(&self) -> usize
         ensures { result ≡ bytes self.now };
 
-    /// The file in which an offset of the partition lies, and where there. An offset past the end counts as the end.
+    /// Gives the file in which an offset of the partition lies, and where the offset lies in that file. An offset
+    /// past the end counts as the end.
     fn translate(&self, offset: u64) -> (RawFile, u64)
         ensures file { result.0.0 ≡ (extent self.now).file }
         ensures place { result.1 ≡ place (extent self.now) offset };
@@ -90,7 +91,7 @@ pub trait Device: Drop {
 
     ghost built_at: { Self → ℕ };
 
-    /// The bytes that it has, in whole pages but for a partial device's.
+    /// Gives the bytes that the device has. They are whole pages, except for those of a partial device.
     fn capacity(&self) -> usize
         ensures { result ≡ room self.now };
 
@@ -132,18 +133,17 @@ pub trait Device: Drop {
         ensures within { LieInFiles (file_count self.now) (extents self.now) }
         ensures each { length (extents self.now) ≡ length (sizes self.now) };
 
-    /// The path of each file number, or an empty one where there is no file. Memory.
+    /// Gives the path of each file number, or an empty path if there is no file. Error: Memory.
     fn files<B: Allocator + Clone>(&self, alloc: B) -> Result<Vec<String<B>, B>>
         ensures count { IfOk result (λ paths. vec_len paths ≡ file_count self.now) }
         ensures memory { OnErr result (result ≡ Err error.Memory) };
 
-    /// Whether `create_partition` answers NoSpace to this size, where it is one of whole pages.
+    /// Says whether `create_partition` answers NoSpace to this size, if the size is one of whole pages.
     fn is_out_of_space(&self, size: usize) -> bool
         ensures { result ≡ lacks_space self.now size };
 
-    /// Makes a partition of that many bytes. Refused, in this order: Config where the size is 0 or not of whole
-    /// pages, or no more partitions can be numbered; NoSpace; Io; Memory. After a refusal the partitions are as
-    /// before.
+    /// Makes a partition of that many bytes. Errors, in this order: Config if the size is 0 or not of whole pages, or
+    /// if no more partitions can be numbered; NoSpace; Io; Memory. After an error the partitions are as before.
     fn create_partition<R: Files>(&mut self, rt: &R, size: usize) -> Result<Self::Partition>
         ensures made { IfOk result (λ p. (sizes self.new ≡ sizes self.old ++ size ∷ [])
             × (extents self.new ≡ extents self.old ++ Self.Partition.extent p ∷ [])
@@ -230,7 +230,7 @@ pub trait DeviceBuilder<A: Allocator>: Sized {
 
     type Device: Device;
 
-    // The capacity of what it builds, or none where its settings are wrong.
+    // The capacity of what it builds, or none if its settings are wrong.
     ghost capacity: { Self → Option ℕ };
 
     // The limits of what it builds, and the moment from which that counts, of the moment at which it is built: a part
@@ -239,8 +239,8 @@ pub trait DeviceBuilder<A: Allocator>: Sized {
 
     ghost built_at: { Self → ℕ → ℕ } = { λ _ now. now };
 
-    /// The device, whose statistics begin at the moment `now`, in nanoseconds. Config where the settings are wrong,
-    /// Io where a file or a directory couldn't be made, Memory.
+    /// Builds the device. The device's statistics begin at the moment `now`, in nanoseconds. Errors: Config if the
+    /// settings are wrong, Io if a file or a directory couldn't be made, Memory.
     fn build<R: Files>(self, rt: &R, alloc: A, now: u64) -> Result<Self::Device>
         ensures config { (result ≡ Err error.Config) ↔ (capacity self ≡ None) }
         ensures refused { IfErr result (λ e. (e ≡ error.Config) ⊎ (e ≡ error.Io) ⊎ (e ≡ error.Memory)) }

@@ -1,4 +1,4 @@
-//! What the buffers take where memory is ample.
+//! What the buffers take if memory is ample.
 use super::{BLOCK, SHORT, place};
 use std::test::Fail;
 

@@ -66,8 +66,8 @@ impl EntryHeader {
         BigEndian::write_u32(&mut buf[32..], word);
     }
 
-    /// The header that 36 bytes encode. MagicMismatch where they have another magic, else Parse
-    /// where the last byte names no compression; nothing else is refused.
+    /// Gives the header that 36 bytes encode. Errors: MagicMismatch if the bytes have another
+    /// magic, else Parse if the last byte names no compression. Nothing else is refused.
     #[tactic(auto, using(crate::proofs::HeaderLemmas::header_again_of))]
     pub fn read(buf: &[u8]) -> Result<EntryHeader>
         requires { length buf.now ≡ 36 }
@@ -101,9 +101,9 @@ impl EntryHeader {
     }
 }
 
-/// The pair of a record of this hash and this sequence, or `None` where the bytes are no such
-/// record. Unsupported where it is compressed, Parse where its value or its key isn't encoded
-/// right, Memory where an allocation was refused; nothing else is refused.
+/// Gives the pair of a record of this hash and this sequence, or `None` if the bytes are no such
+/// record. Errors: Unsupported if the record is compressed, Parse if its value or its key isn't
+/// encoded right, Memory if an allocation was refused. Nothing else is refused.
 #[tactic(auto, using(crate::proofs::RefusalLemmas::record_answers))]
 pub fn read_record<A: Allocator + Clone, K: Code<A> + Drop, V: Code<A> + Drop>(
     alloc: &A,

@@ -27,9 +27,9 @@ pub struct KvInfo {
 pub struct EntrySerializer;
 
 impl EntrySerializer {
-    /// Writes the value and then the key. Unsupported for another compression than `None`; else
-    /// BufferSizeLimit where room is missing, Io where the writer failed, or a code's own error.
-    /// After an `Err` some of the bytes may have been written. Any other `Write` goes in by a `TrackedWriter`.
+    /// Writes the value and then the key. Errors: Unsupported for another compression than `None`; else
+    /// BufferSizeLimit if room is missing, Io if the writer failed, or a code's own error. After an `Err` some
+    /// of the bytes may have been written. Any other `Write` goes in by a `TrackedWriter`.
     #[tactic(auto, using(foyer_format_code::proofs::WritingLemmas::two_writes))]
     pub fn serialize<A: Allocator, K: Code<A>, V: Code<A>, W: Sink>(
         key: &K,
@@ -107,10 +107,10 @@ fn check_entry(
 pub struct EntryDeserializer;
 
 impl EntryDeserializer {
-    /// The key and the value of the bytes. The first of these faults is answered: OutOfRange where
-    /// there are fewer bytes than both lengths together, ChecksumMismatch where a checksum was given
-    /// and isn't theirs, Unsupported for another compression than `None`, Parse where a code
-    /// refuses them. Memory where an allocation, or a clone of the allocator, was refused.
+    /// Gives the key and the value of the bytes. The first of these faults is answered: OutOfRange if there
+    /// are fewer bytes than both lengths together, ChecksumMismatch if a checksum was given and isn't that of
+    /// the bytes, Unsupported for another compression than `None`, Parse if a code refuses the bytes. Memory
+    /// is answered if an allocation, or a clone of the allocator, was refused.
     #[tactic(auto, using(crate::proofs::RefusalLemmas::decode_fault, crate::proofs::OuterFault::outer_faults))]
     pub fn deserialize<A: Allocator + Clone, K: Code<A> + Drop, V: Code<A> + Drop>(
         alloc: &A,

@@ -28,10 +28,11 @@ pub use noop::{NoopIoEngine, NoopIoEngineConfig};
 pub use psync::{PsyncIoEngine, PsyncIoEngineConfig};
 pub use shared_memory::{SharedMemoryIoEngine, SharedMemoryIoEngineConfig};
 
-/// Reads and writes partitions. A refused call is OutOfRange, where the range isn't there, and nothing was touched, or
-/// Io, where the device failed.
+/// Reads and writes partitions. A refused call is OutOfRange if the range isn't there, and then nothing was touched. A
+/// refused call is Io if the device failed.
 pub trait IoEngine {
-    // The bytes of the files, where the engine shows them: one over a system's files doesn't, and never does.
+    // The bytes of the files, if the engine shows them. An engine over a system's files doesn't show them, and never
+    // does.
     ghost disk: { Self → Option Disk };
 
     // The faults of its reads and writes, up to 2^64 - 1.

@@ -30,7 +30,7 @@ impl NotKept {
     }
 }
 
-/// A map from a hash and a key to a piece and the number of its insertion. Two keys are the same where `==` says so.
+/// A map from a hash and a key to a piece and the number of its insertion. Two keys are the same if `==` says so.
 #[derive(Drop)]
 pub struct Shard<K: Eq, V, P, A: Allocator> {
     buckets: Buckets<K, V, P, A>,
@@ -115,7 +115,7 @@ fn remove<K: Eq + Drop, V: Drop, P: Drop, A: Allocator>(
 }
 
 impl<K: Eq + Drop, V: Drop, P: Drop, A: Allocator + Clone> Shard<K, V, P, A> {
-    /// A shard that has nothing. It takes no memory but for what a clone of the allocator takes. Memory.
+    /// Makes a shard that has nothing. It takes no memory except what a clone of the allocator takes. Errors: `Memory`.
     pub fn new(alloc: A) -> Result<Shard<K, V, P, A>>
         ensures empty { IfOk result (λ shard. (shard.map ≡ []) × (shard.last ≡ 0)) }
         ensures refused { IsOkUnless result Error.Memory }
@@ -127,8 +127,8 @@ impl<K: Eq + Drop, V: Drop, P: Drop, A: Allocator + Clone> Shard<K, V, P, A> {
         })
     }
 
-    /// Makes room for the piece and draws the next number: the first is a reference to it, the second is to be put. `SequenceEnd`,
-    /// where the numbers are used up; `Memory`. What is kept stays, and a refused call draws no number.
+    /// Makes room for the piece and draws the next number. The first result is a reference to the piece, the second is to be put. Errors:
+    /// `SequenceEnd` if the numbers are used up; `Memory`. What is kept stays, and a refused call draws no number.
     pub fn reserve(
         &mut self,
         piece: &Piece<K, V, P, A>,
@@ -164,8 +164,8 @@ impl<K: Eq + Drop, V: Drop, P: Drop, A: Allocator + Clone> Shard<K, V, P, A> {
         enter(&mut self.buckets, alloc, piece);
     }
 
-    /// Inserts one more owner of the piece under its hash and its key, in place of what is there, under the next number.
-    /// `SequenceEnd`, where the numbers are used up; `Memory`. Then all is as before.
+    /// Inserts one more owner of the piece under its hash and its key, in place of what is there, under the next number. Errors:
+    /// `SequenceEnd` if the numbers are used up; `Memory`. After an error all is as before.
     pub fn insert(&mut self, piece: &Piece<K, V, P, A>) -> Result<PieceRef<K, V, P, A>>
         ensures number { IfOk result (λ r. (r.piece ≡ piece.now) × (r.number ≡ self.old.last + 1)) }
         ensures inserted { IfOk result (λ r. ChangesAt K.eq self.old.map self.new.map piece.now.hash piece.now.key (Some r)) }
@@ -189,7 +189,8 @@ impl<K: Eq + Drop, V: Drop, P: Drop, A: Allocator + Clone> Shard<K, V, P, A> {
         }
     }
 
-    /// One more owner of the piece of a hash and a key, or what shows that there is none. Memory, where the piece has 2^63 - 1 owners.
+    /// Gives one more owner of the piece of a hash and a key, or what shows that there is none. Errors: `Memory` if the piece has 2^63 - 1
+    /// owners.
     pub fn get(&self, hash: u64, key: &K) -> Result<std::result::Result<Piece<K, V, P, A>, NotKept>>
         ensures value { IfOk result (IsFound K.eq self.now.map hash key.now) }
         ensures own { IfOk result (λ found. IfOk found (IsOf K.eq hash key.now)) }
@@ -201,7 +202,7 @@ impl<K: Eq + Drop, V: Drop, P: Drop, A: Allocator + Clone> Shard<K, V, P, A> {
         }
     }
 
-    /// What shows that there is no piece of the hash and the key, where there is none.
+    /// Gives what shows that there is no piece of the hash and the key, if there is none.
     pub fn lacks(&self, hash: u64, key: &K) -> Option<NotKept>
         ensures { IsLacked K.eq self.now.map hash key.now result }
     {

@@ -60,7 +60,7 @@ fn value_of(alloc: Global, key: u64, count: u64) -> Result<Vec<u8>> {
     Ok(value)
 }
 
-// The count of a value, where it is a whole one of the key.
+// Gives the count of a value, if the value is a whole one of the key.
 fn count_of(key: u64, value: &[u8]) -> Option<u64> {
     if value.len() < 16 || &value[..8] != key.to_le_bytes().as_slice() {
         return None;

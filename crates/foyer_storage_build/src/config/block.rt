@@ -297,7 +297,7 @@ impl<D: Device, S: PickerSource, C: StorageFilterCondition, G: Gate> BlockEngine
         }
     }
 
-    /// The config in a box. AllocError where that was refused.
+    /// Puts the config into a box. Errors: AllocError if the box was refused.
     pub fn boxed<A: Allocator>(
         self,
         alloc: A,

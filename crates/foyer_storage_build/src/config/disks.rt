@@ -130,8 +130,8 @@ impl<R, I: IoEngineConfig<R>, Q: Partition + Copy> Disks<'_, R, I, Q> {
         Ok(BlockRecoverer { recoverer, alloc })
     }
 
-    // So many workers of a recovery, or fewer where one can't be made: whoever opens the core reads their blocks. None where nothing
-    // is read, or one thread is enough.
+    // Makes this many workers of a recovery, or fewer if one can't be made. Whoever opens the core reads the blocks of a worker that wasn't
+    // made. It makes none if nothing is read, or if one thread is enough.
     pub(super) fn recoverers<G: Gate>(
         &self,
         alloc: Global,

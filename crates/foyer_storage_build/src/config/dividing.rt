@@ -19,7 +19,7 @@ use std::alloc::Global;
 use std::rt::Files;
 use std::sync::Arc;
 
-// The bytes of the log of deletes of a device of so many bytes, 0 where there is to be none.
+// Gives the bytes of the log of deletes of a device of this many bytes, or 0 if there is to be no log.
 fn log_size(capacity: usize, tombstone_log: bool) -> Result<usize>
     ensures refused { IfErr result (λ e. e ≡ Error.OutOfRange) }
     ensures size { IfOk result (λ size. size ≡ (if tombstone_log then log_pages capacity * 4096 else 0)) }
@@ -33,7 +33,7 @@ fn log_size(capacity: usize, tombstone_log: bool) -> Result<usize>
     }
 }
 
-// The partition of the log of deletes, where there is to be one.
+// Makes the partition of the log of deletes, if there is to be one.
 fn make_log<D: Device, R: Files>(
     rt: &R,
     device: &mut D,

@@ -22,7 +22,7 @@ use std::sync::Arc;
 pub struct NoopEngineConfig;
 
 impl NoopEngineConfig {
-    /// The config in a box. AllocError where that was refused.
+    /// Puts the config into a box. Errors: AllocError if the box was refused.
     pub fn boxed<A: Allocator>(
         self,
         alloc: A,

@@ -52,7 +52,7 @@ where
     }
 }
 
-// Room for a listing of each of so many blocks, or for none where nobody lists.
+// Makes room for a listing of each of this many blocks, or for none if nobody lists.
 pub(super) fn room_for<N, Q, G>(
     alloc: Global,
     blocks: u32,

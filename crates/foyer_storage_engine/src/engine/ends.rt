@@ -97,7 +97,7 @@ where
         unreachable!()
     }
 
-    // Queues a wait at each flusher. Where one is refused the wait is given up, and those that are queued stay.
+    // Queues a wait at each flusher. If one is refused, the wait is given up, and those that are queued stay.
     #[tactic(auto, using(crate::proofs::HoldingLemmas::held_by_made, crate::proofs::HoldingLemmas::held_on))]
     fn queue_waits(&self, rt: &impl Wait, session: &mut Session<L>) -> Result<BegunWait>
         requires { 0 < session.old.shares.parts }
@@ -159,9 +159,9 @@ where
         unreachable!()
     }
 
-    /// Waits until all that was queued before is written, and then until no reclaim runs, which is its last step. `Memory` where a
-    /// step is refused it, and `SequenceEnd` where none is left: what the steps before it did stays. The clause also leaves `Closed` open,
-    /// which no core answers to a wait.
+    /// Waits until all that was queued before is written, and then until no reclaim runs. Its last step asks whether no reclaim runs. Errors:
+    /// `Memory` if a step is refused memory; `SequenceEnd` if no step is left. After an error, what the earlier steps did stays. The clause
+    /// also leaves `Closed` open, which no core answers to a wait.
     #[tactic(auto, using(crate::proofs::HoldingLemmas::held_on))]
     pub fn wait(&self, rt: &impl Wait, session: &mut Session<L>) -> Result<()>
         requires { 0 < session.old.shares.parts }
@@ -267,7 +267,7 @@ where
         unreachable!()
     }
 
-    // Cleans a block for a destroy: the outcome of all cleans, where this was the last.
+    // Cleans a block for a destroy. Gives the outcome of all cleans, if this one was the last.
     #[tactic(auto, using(crate::proofs::HoldingLemmas::destroys_by_step, crate::proofs::HoldingLemmas::destroys_on))]
     fn clean(&self, rt: &impl Wait, session: &mut Session<L>, block: BlockId) -> Option<Result<()>>
         requires { 0 < session.old.shares.parts }
@@ -284,9 +284,9 @@ where
         }
     }
 
-    /// Destroys all entries: waits as `wait` does, clears the index, and cleans each block, the last one last. Once it has begun it tries again
-    /// what is refused memory. `Closed` where the engine is closed, and `SequenceEnd` where no step is left. `Io`, or another kind, is that
-    /// of the first clean that failed: the others were done.
+    /// Destroys all entries: it waits as `wait` does, clears the index, and cleans each block, the last one last. Once it has begun, it tries
+    /// again what is refused memory. Errors: `Closed` if the engine is closed; `SequenceEnd` if no step is left; `Memory` if it is refused
+    /// memory before it has begun. `Io`, or another kind, is the error of the first clean that failed. The other cleans were done.
     #[tactic(auto, using(crate::proofs::HoldingLemmas::destroys_on, crate::proofs::HoldingLemmas::destroys_beside))]
     pub fn destroy(&self, rt: &impl Wait, session: &mut Session<L>) -> Result<()>
         requires { 0 < session.old.shares.parts }

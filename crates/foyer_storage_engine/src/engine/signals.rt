@@ -7,11 +7,11 @@ use std::sync::Wait;
 
 /// The bells of an engine, and the waits of its callers. No call holds one of their locks while it takes another.
 pub struct Signals<A: Allocator> {
-    /// Rung where something may be queued at a flusher.
+    /// The bell that is rung when something may be queued at a flusher.
     pub queued: Bell,
-    /// Rung where a reclaim may begin.
+    /// The bell that is rung when a reclaim may begin.
     pub reclaims: Bell,
-    /// Rung where a batch, a reclaim or a destroy ended: a block may be clean, or nothing is under way.
+    /// The bell that is rung when a batch, a reclaim or a destroy ended. Then a block may be clean, or nothing is under way.
     pub done: Bell,
     /// The waits that flushers have yet to answer.
     pub waits: Waits<A>,

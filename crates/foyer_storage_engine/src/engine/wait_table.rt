@@ -52,7 +52,7 @@ pub(crate) struct WaitTable<A: Allocator> {
     is_awaited: bool,
 }
 
-// Where a wait stands in a list.
+// Gives the place of a wait in a list.
 fn place_of(waiting: &[OpenWait], id: u64) -> Option<usize>
     ensures { result ≡ place_of waiting.now id }
 {
@@ -133,7 +133,7 @@ impl<A: Allocator> WaitTable<A> {
         self.is_closed || place_of(&self.waiting, id).is_none()
     }
 
-    // What shows that a wait is over, where it is.
+    // Gives what shows that a wait is over, if it is over.
     pub(crate) fn answered(&self, id: u64) -> Option<AnsweredWait>
         ensures over { IsSome result ↔ IsTrue (is_over self.now id) }
         ensures own { IfSome result (λ wait. wait.id ≡ id) }
@@ -152,7 +152,7 @@ impl<A: Allocator> WaitTable<A> {
         AnsweredWait { id }
     }
 
-    // Whether to wait on: who does is to be woken where a wait ends.
+    // Says whether to wait on. Whoever waits on is to be woken when a wait ends.
     pub(crate) fn begins_to_wait(&mut self, id: u64) -> bool
         ensures waits { result ≡ not (is_over self.old id) }
         ensures awaited { result ≡ true → self.new ≡ record self.old { is_awaited = true } }

@@ -66,7 +66,7 @@ impl<A: Allocator> Waits<A> {
         self.answered.notify_all();
     }
 
-    // What shows that a wait is over; not where another thread has the lock.
+    // Gives what shows that a wait is over. It gives None if another thread has the lock.
     fn look(&self, id: u64) -> Option<AnsweredWait>
         ensures { IfSome result (λ wait. wait.id ≡ id) }
     {

@@ -97,12 +97,12 @@ where
         }
     }
 
-    /// What a key has: the newest that was put, whatever was asked before. Where the newest event of its hash is a put of the
-    /// key, that is answered, or `Io` for a failed read, or `Memory`, unless a reclaim of its block or a destroy began
-    /// since, or under two of 2^64 - 1 steps are left. Where it is a put of another key of the same hash, it is a miss. A
-    /// record that an opening found may be none: then it is a miss, or `Parse` where its key or value doesn't decode, or
-    /// `Unsupported`. `Io` is answered only where the index has an address of the hash, of which the read may have failed.
-    /// `SequenceEnd` where no step is left.
+    /// Gives what a key has: the newest that was put, whatever was asked before. If the newest event of its hash is a put of the key, the
+    /// call answers that put, or `Io` for a failed read, or `Memory`. This doesn't hold if a reclaim of its block or a destroy began since,
+    /// or if under two of 2^64 - 1 steps are left. If the newest event is a put of another key of the same hash, the answer is a miss. A
+    /// record that an opening found may be none. Then the answer is a miss, or `Parse` if its key or value doesn't decode, or `Unsupported`.
+    /// `Io` is answered only if the index has an address of the hash, and the read at that address may have failed. `SequenceEnd` is answered
+    /// if no step is left.
     pub fn get(&mut self, key: &K) -> Result<Load<K, V>>
         ensures waits { self.new.next_wait ≡ self.old.next_wait }
         ensures lent { (self.new.env.reinsertion ≡ self.old.env.reinsertion) × (self.new.env.io ≡ self.old.env.io) }
@@ -136,8 +136,8 @@ where
         self.load(key, false)
     }
 
-    /// What a key has, as a get answers it, where the caller says whether the device is throttled. If it is, a key whose
-    /// hash has an entry is answered `Throttled`, and nothing is read. It is refused for what a get is.
+    /// Gives what a key has, as a get answers it. The caller says whether the device is throttled. If it is, a key whose hash has an entry is
+    /// answered `Throttled`, and nothing is read. The call is refused for what a get is refused.
     pub fn load(&mut self, key: &K, throttled: bool) -> Result<Load<K, V>>
         ensures waits { self.new.next_wait ≡ self.old.next_wait }
         ensures lent { (self.new.env.reinsertion ≡ self.old.env.reinsertion) × (self.new.env.io ≡ self.old.env.io) }
@@ -179,7 +179,7 @@ where
         }
     }
 
-    /// What a hash has, as `load` answers it, but for the key: whichever its entry has.
+    /// Gives what a hash has, as `load` answers it, whichever key its entry has.
     pub fn load_hash(&mut self, hash: u64, throttled: bool) -> Result<Load<K, V>>
         ensures waits { self.new.next_wait ≡ self.old.next_wait }
         ensures lent { (self.new.env.reinsertion ≡ self.old.env.reinsertion) × (self.new.env.io ≡ self.old.env.io) }

@@ -63,11 +63,11 @@ where
     E: EvictionPicker,
     C: StorageFilterCondition,
 {
-    /// Destroys all entries: flushes as a wait does, clears the index, and cleans each block, so that an opening finds
-    /// nothing of it again. Where a destroy has begun and isn't over it goes on with that one. `Closed` after a close,
-    /// `SequenceEnd` and `Memory` before it has begun; once it has, it tries again what is refused memory. `Io`, `NoSpace`
-    /// and `SequenceEnd` as of a wait. The first clean that failed is answered by the disk's own error; the others were done
-    /// after it. Its accesses fail for what a wait's do.
+    /// Destroys all entries: it flushes as a wait does, clears the index, and cleans each block, so that an opening finds nothing of them
+    /// again. If a destroy has begun and isn't over, the call goes on with that one. Errors: `Closed` after a close; `SequenceEnd` and
+    /// `Memory` before it has begun. Once it has begun, it tries again what is refused memory. `Io`, `NoSpace` and `SequenceEnd` come as of a
+    /// wait. If a clean failed, the answer is the disk's own error of the first clean that failed. The others were done after it. The
+    /// accesses of a destroy fail for what a wait's do.
     pub fn destroy(&mut self) -> Result<()>
         ensures destroyed { D.is_known self.old.disk → D.is_known self.new.disk × Destroys (result ≡ Ok tt)
             (meaning K.encoding V.encoding K.is_encodable V.is_encodable K.is_decodable V.is_decodable P.age)
@@ -91,7 +91,7 @@ where
         self.clear()
     }
 
-    // Flushes what is queued, again where memory is refused.
+    // Flushes what is queued, and does so again if memory is refused.
     fn flush_until_done(&mut self) -> Result<()>
         ensures waited { LeadsForCause D.is_known D.byte_at D.surely_lies D.faults (AllSteps IsWaiting)
             (meaning K.encoding V.encoding K.is_encodable V.is_encodable K.is_decodable V.is_decodable P.age)
@@ -130,8 +130,8 @@ where
         (self.core.apply(&mut self.env, cleaned), first)
     }
 
-    // Clears the index, then cleans each block and brings the outcomes: what was answered last, and the error of the first
-    // clean that failed. `Err` where the index wasn't cleared, with the step that was out of turn or refused.
+    // Clears the index, then cleans each block. Gives what was answered last, and the error of the first clean that failed. If the index
+    // wasn't cleared, gives `Err` with the step that was out of turn or refused.
     fn clear_blocks(
         &mut self,
     ) -> std::result::Result<(Reply<K, V, P, A>, Option<Error>), Reply<K, V, P, A>>
@@ -165,7 +165,7 @@ where
         Ok((last, first))
     }
 
-    // Clears the index and cleans the blocks, again where memory is refused for it.
+    // Clears the index and cleans the blocks, and does so again if memory is refused for it.
     fn clear(&mut self) -> Result<()>
         ensures destroyed { LeadsForCause D.is_known D.byte_at D.surely_lies D.faults (λ events. AllSteps IsDestroying events × (result ≡ Ok tt → HasDestroyed events))
             (meaning K.encoding V.encoding K.is_encodable V.is_encodable K.is_decodable V.is_decodable P.age)

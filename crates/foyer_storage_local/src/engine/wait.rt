@@ -32,13 +32,12 @@ where
     E: EvictionPicker,
     C: StorageFilterCondition,
 {
-    /// Flushes until no flusher has anything left to do, then reclaims blocks until enough are clean, as far as that goes,
-    /// and flushes the records that reclaims read back. The first reclaims of a call, as many as there are blocks, have
-    /// records written again where `env` has a filter; the others free their blocks, so that it ends. It puts, deletes and
-    /// loads nothing, and closes nothing. `Io`: a flusher's batch can't be ended, since a write of it was never reported.
-    /// `NoSpace`: no block can be reclaimed. `SequenceEnd`: the limit of steps is reached, or 2^64 - 1 turns weren't
-    /// enough. `Memory` where a reclaim or a flush is refused it. A write or a clean is only reported as failed where the
-    /// disk failed an access, or where it isn't sure that its bytes lie in the disk.
+    /// Flushes until no flusher has anything left to do. Then it reclaims blocks until enough are clean, as far as that goes, and flushes the
+    /// records that reclaims read back. The first reclaims of a call, as many as there are blocks, have records written again if `env` has a
+    /// filter. The later ones free their blocks, so that the call ends. It puts, deletes and loads nothing, and closes nothing. Errors: `Io`
+    /// if a flusher's batch can't be ended, since a write of it was never reported; `NoSpace` if no block can be reclaimed; `SequenceEnd` if
+    /// the limit of steps is reached, or 2^64 - 1 turns weren't enough; `Memory` if a reclaim or a flush is refused it. A write or a clean is
+    /// reported as failed only if the disk failed an access, or if it isn't sure that its bytes lie in the disk.
     pub fn wait(&mut self) -> Result<()>
         ensures rest { IfOk result (λ _. ComesToRest
             (meaning K.encoding V.encoding K.is_encodable V.is_encodable K.is_decodable V.is_decodable P.age)
@@ -120,7 +119,7 @@ where
         true
     }
 
-    // Flushes all flushers, and again where a reclaim had a record queued at one that was idle by then.
+    // Flushes all flushers, and does so again if a reclaim had a record queued at a flusher that was idle by then.
     fn settle(&mut self) -> Result<()>
         ensures leads { IfOk result (λ _. Leads
             (meaning K.encoding V.encoding K.is_encodable V.is_encodable K.is_decodable V.is_decodable P.age)
@@ -186,8 +185,7 @@ where
         Ok(())
     }
 
-    // Queues a wait at a flusher, so that a batch begins even where all that is queued goes without a record, and flushes
-    // it.
+    // Queues a wait at a flusher, and flushes the flusher. With the wait a batch begins even if all that is queued goes without a record.
     fn flush(&mut self, flusher: u32) -> Result<()>
         ensures leads { IfOk result (λ _. Leads
             (meaning K.encoding V.encoding K.is_encodable V.is_encodable K.is_decodable V.is_decodable P.age)
@@ -205,9 +203,9 @@ where
         self.flush_waiting(flusher)
     }
 
-    // Flushes until nothing is queued or received at a flusher where a wait is queued, so that a batch is under way in
-    // each turn but the last: a burst is written in several batches, and each batch's marks are appended to the log. One
-    // that isn't ended by then has a write that was never reported.
+    // Flushes until nothing is queued or received at a flusher at which a wait is queued. So a batch is under way in each turn except the
+    // last. A burst is written in several batches, and each batch's marks are appended to the log. A batch that isn't ended in its turn has a
+    // write that was never reported.
     fn flush_waiting(&mut self, flusher: u32) -> Result<()>
         ensures leads { IfOk result (λ _. Leads
             (meaning K.encoding V.encoding K.is_encodable V.is_encodable K.is_decodable V.is_decodable P.age)
@@ -239,8 +237,8 @@ where
         Err(Error::SequenceEnd)
     }
 
-    // Takes what is queued until less than half of the buffer is left: true where nothing is queued any more. A piece
-    // that is handed back takes more than half of the buffer, or doesn't fit a block, and is dropped.
+    // Takes what is queued until less than half of the buffer is left. Gives true if nothing is queued any more. A piece that is handed back
+    // takes more than half of the buffer, or doesn't fit a block, and is dropped.
     fn receive_all(&mut self, flusher: u32) -> Result<bool>
         ensures leads { IfOk result (λ is_empty. Leads
             (meaning K.encoding V.encoding K.is_encodable V.is_encodable K.is_decodable V.is_decodable P.age)
@@ -288,7 +286,7 @@ where
         Err(Error::SequenceEnd)
     }
 
-    // Writes the next block of the batch, or reclaims one for it where none is clean: false where none is left to write.
+    // Writes the next block of the batch, or reclaims one for it if none is clean. Gives false if none is left to write.
     fn write_next(&mut self, flusher: u32) -> Result<bool>
         ensures leads { Leads
             (meaning K.encoding V.encoding K.is_encodable V.is_encodable K.is_decodable V.is_decodable P.age)
@@ -309,7 +307,7 @@ where
         }
     }
 
-    // Reclaims a block for a flusher that waits. `NoSpace` where none may be reclaimed.
+    // Reclaims a block for a flusher that waits. It is refused with `NoSpace` if no block may be reclaimed.
     fn make_room(&mut self) -> Result<bool>
         ensures leads { Leads
             (meaning K.encoding V.encoding K.is_encodable V.is_encodable K.is_decodable V.is_decodable P.age)
@@ -329,8 +327,8 @@ where
         }
     }
 
-    // Reclaims a block, where one may be: whether it was. Records of it are written again while the call has reclaims left
-    // for that.
+    // Reclaims a block if one may be reclaimed, and says whether it did. Records of the block are written again while the call has reclaims
+    // left for that.
     fn reclaim(&mut self) -> Result<bool>
         ensures leads { Leads
             (meaning K.encoding V.encoding K.is_encodable V.is_encodable K.is_decodable V.is_decodable P.age)

@@ -118,9 +118,9 @@ where
     }
 }
 
-// Does what the reply to a batch's question for a block asks: writes it, or waits for one where none is clean. Whether the batch goes on. A
-// reclaim may begin where the flusher leaves its own block for another, since that takes a clean one and the other may be evicted: `own` is
-// the block that it wrote last.
+// Does what the reply to a batch's question for a block asks: it writes the block, or waits for one if none is clean. Says whether the batch
+// goes on. A reclaim may begin when the flusher leaves its own block for another, since that takes a clean block and the block that it left
+// may be evicted. `own` is the block that the flusher wrote last.
 #[tactic(auto, using(crate::proofs::WorkerStepLemmas::does_none, crate::proofs::WorkerStepLemmas::names_none))]
 fn do_asked<L, K, V, P, A, E, C, D, G, N, O>(
     rt: &impl Wait,

@@ -36,7 +36,7 @@ fn is_encoded<C: Code<Global> + PartialEq + Drop>(
     )
 }
 
-// The same, where memory is ample.
+// Says the same, if memory is ample.
 fn is_encodable<C: Code<Global> + PartialEq + Drop>(
     alloc: Global,
     value: &C,

@@ -99,7 +99,7 @@ fn push_each(
     Ok(())
 }
 
-// Where the records stand, and how long they are.
+// Notes where the records stand, and how long they are.
 fn say_infos(said: &mut Said, buffer: Buffer<Global>) {
     let (_, infos) = buffer.finish();
     for info in infos.as_slice() {
@@ -213,7 +213,7 @@ fn an_entry_is_written(rt: HostRuntime) -> Result<(), Fail> {
     Ok(())
 }
 
-// The pair of an entry's bytes, where this checksum is noted.
+// Reads the pair of an entry's bytes, if this checksum is noted.
 fn pair(alloc: Global, bytes: &[u8], sum: u64) -> Result<(u64, String), Error> {
     EntryDeserializer::deserialize(&alloc, bytes, 8, 9, Compression::None, Some(sum))
 }

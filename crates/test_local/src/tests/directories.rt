@@ -86,7 +86,7 @@ fn log_of<R: Files<File = File> + AllocGlobal>(
     Ok(Some(TombstoneLog::open(alloc, partitions, files, marks)?))
 }
 
-// The partition of the log ahead of the blocks', where there is to be one.
+// Makes the partition of the log ahead of the blocks' partitions, if there is to be one.
 fn partition_of<R: Files<File = File> + AllocGlobal>(
     rt: &R,
     device: &mut FsDevice<Global>,

@@ -18,7 +18,7 @@ fn say_whole(said: &mut Said, lines: &mut Input<'_>) {
     }
 }
 
-// The same of all lines, and where memory doesn't hold one.
+// Notes the same of all lines, and says if memory doesn't hold one.
 fn say_lines(said: &mut Said, lines: &mut Input<'_>) {
     for _ in 0..16 {
         say_whole(said, lines);
@@ -37,8 +37,7 @@ fn say_lines(said: &mut Said, lines: &mut Input<'_>) {
     said.miss();
 }
 
-/// Notes the lines of an input where an allocation is refused: the third one is longer than the buffer, and ends the input, or others
-/// follow.
+/// Notes the lines of an input if an allocation is refused. The third line is longer than the buffer. It ends the input, or others follow.
 pub fn say_input(alloc: Global, said: &mut Said, asked: &str) -> Result<()> {
     let (word, allocation) = cut(asked);
     let mut input = Vec::from_slice(alloc, b"get 1\nwait\n")?;

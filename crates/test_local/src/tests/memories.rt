@@ -27,7 +27,7 @@ type Accesses<R> = FaultIoEngine<SharedMemoryIoEngine<R, Global>>;
 /// Its blocks, an access of which may fail.
 pub type Blocks<R, A> = PartitionedDisk<Accesses<R>, MemoryPartition, A>;
 
-/// Its log, where there is one.
+/// Its log, if there is one.
 pub type Log<R, A> = Option<TombstoneLog<Accesses<R>, MemoryPartition, A>>;
 
 /// An engine over it.

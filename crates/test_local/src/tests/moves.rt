@@ -242,8 +242,8 @@ fn say_both<R: Wait + Clone + Drop, A: Allocator + Clone>(
     Ok(())
 }
 
-// The same where an allocation of a number is refused, and whether it was reached; nothing where the core can't be opened, the moves
-// can't be made, or the run ends before.
+// Gives the same if the allocation of this number is refused, and whether that allocation was reached. It gives nothing if the core can't be
+// opened, the moves can't be made, or the run ends before.
 fn refused<R: Files + AllocGlobal + Wait + Clone + Drop>(rt: &R, n: u64) -> Result<(String, bool)> {
     let over = over_of(USUAL, "blocks 2, admits 60");
     let memory = Memory::new(rt, rt.alloc(), over)?;

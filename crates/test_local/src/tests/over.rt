@@ -164,7 +164,7 @@ fn with(over: Over, word: &str, number: u64) -> Over {
     }
 }
 
-/// The same, but for what words say, which commas part.
+/// Gives the same, except for what the words say. Commas part the words.
 pub fn over_of(over: Over, words: &str) -> Over {
     let mut changed = over;
     for part in words.split(", ") {

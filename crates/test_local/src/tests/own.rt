@@ -109,7 +109,7 @@ fn say_core<R: Files + Wait + Clone + Drop>(
     say_runs(alloc, said, &mut env, over, &mut disk, script)
 }
 
-/// Notes what is answered where these pickers or this condition are asked.
+/// Notes what is answered if these pickers or this condition are asked.
 pub fn say_own<R: Files + Wait + Clone + Drop>(
     rt: &R,
     alloc: Global,
@@ -125,9 +125,9 @@ pub fn say_own<R: Files + Wait + Clone + Drop>(
     }
 }
 
-// Three blocks are full: the one that goes is the one that a boxed picker names, and without it the oldest. A condition of an own
-// type is asked of each hash: its record is written again, the two beside it go. Two reclaims run at once: the second picker is
-// asked where the block of the first isn't evictable any more.
+// Three blocks are full. The one that goes is the one that a boxed picker names. Without that picker it is the oldest. A condition of an own
+// type is asked of each hash. The record of one hash is written again, and the two records beside it go. Two reclaims run at once. The second
+// picker is asked if the block of the first isn't evictable any more.
 pub const ROWS: &str =
     "boxed-picker blocks 3 < put 1 a, put 2 b, put 3 c, wait, put 4 d, put 5 e, put 6 f, wait, put 7 g, put 8 h, put 9 i, wait, get 1, get 2, get 3, get 4, get 5, get 6, get 7, get 8, get 9 | queued queued queued ok queued queued queued ok queued queued queued ok a b c miss miss miss g h i
 memory blocks 3 < put 1 a, put 2 b, put 3 c, wait, put 4 d, put 5 e, put 6 f, wait, put 7 g, put 8 h, put 9 i, wait, get 1, get 2, get 3, get 4, get 5, get 6, get 7, get 8, get 9 | queued queued queued ok queued queued queued ok queued queued queued ok miss miss miss d e f g h i

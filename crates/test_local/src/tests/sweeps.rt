@@ -126,7 +126,7 @@ type Heap<'a> = &'a Refusing<Global>;
 
 type Engine<'a, R> = MemoryEngine<R, Heap<'a>, BuiltInPicker, BuiltInCondition>;
 
-// An engine over the memory; where the fault refuses it, one without a fault.
+// Opens an engine over the memory. If the fault refuses it, opens one without a fault.
 fn opened_over<'a, R: Wait + Clone + Drop>(
     rt: &R,
     memory: &Memory,
@@ -264,8 +264,8 @@ fn say_whole<R: Files + Wait + Clone + Drop>(
     Ok(())
 }
 
-// Notes how many of so many accesses in a life changed an answer where they failed; and of each whose answers no fault explains,
-// these.
+// Notes how many of this many accesses in a life changed an answer when they failed. If no fault explains the answers, notes the access and
+// the answers too.
 fn say_accesses<R: Files + Wait + Clone + Drop>(
     rt: &R,
     alloc: Global,
@@ -287,8 +287,8 @@ fn say_accesses<R: Files + Wait + Clone + Drop>(
     Ok(())
 }
 
-// Notes how many allocations changed an answer where they were refused, of no more than so many, and how many destroys were refused;
-// and of each whose answers that doesn't explain, these.
+// Notes how many allocations changed an answer when they were refused, at most this many, and how many destroys were refused. If that doesn't
+// explain the answers, notes the allocation and the answers too.
 fn say_allocations<R: Files + Wait + Clone + Drop>(
     rt: &R,
     alloc: Global,
@@ -342,14 +342,14 @@ pub fn say_sweep<R: Files + Wait + Clone + Drop>(
     }
 }
 
-// Of each script what it is answered; and of each sweep which script it is, which accesses fail, in which life, how many bytes a failed
-// write keeps, how many fail in turn, and how many of these changed an answer. A batch writes its records, the zeros behind them
-// where its block has room for a page, and the index. The first life of the usual script makes 38 accesses of the blocks, and the
-// second one 16; eight and seven of them, in their openings, find nothing in any case. A write that keeps all of its bytes may be
-// found again. Of the log the first access is the opening's, which is refused; the usual script's first life's appends but the last
-// come before its destroy. The great script's lives write two batches and one, the first of which ends its block, and read four
-// texts and two; its opening finds one block's text alone. Each append writes again what the one before it wrote, so that a failed
-// one is met where it is a life's last.
+// A script's row says what the script is answered. A sweep's row says which script it is, which accesses fail, in which life, how many bytes
+// a failed write keeps, how many accesses fail in turn, and how many of these changed an answer. A batch writes its records, the zeros behind
+// them if its block has room for a page, and the index. The first life of the usual script makes 38 accesses of the blocks, and the second
+// one makes 16. Eight and seven of them, in their openings, find nothing in any case. A write that keeps all of its bytes may be found again.
+// The log's first access is the opening's, which is refused. The appends of the usual script's first life, except the last, come before its
+// destroy. The great script's lives write two batches and one. The first of these batches ends its block. The lives read four texts and two.
+// The script's opening finds one block's text alone. Each append writes again what the append before it wrote. So a failed append is met if
+// it is a life's last.
 pub const SWEEPS: &str =
     "sweep usual | queued queued queued ok 101 202 303 ok ok miss queued ok queued ok 111 213 miss ok miss miss miss queued queued ok 122 223 queued ok ok miss 327 queued 122 ok / 132 miss 327 queued ok ok miss 238 327 ok / miss 238 327
 sweep great | queued queued queued ok queued 101 deleted miss 303 ok miss miss 303 queued queued deleted miss ok 214 miss ok / miss 214 miss queued queued ok queued 214 deleted miss ok / miss miss 326
@@ -400,8 +400,8 @@ sweep again blocks 0 100 26 | 17
 sweep again blocks 0 4096 26 | 17
 ";
 
-// Of each script how many allocations, up to so many, changed an answer where they were refused, and how many destroys were. Memory
-// refuses a destroy only before it has begun, where the queue has no room for its mark.
+// Each row says how many allocations of a script, up to this many, changed an answer when they were refused, and how many destroys were
+// refused. Memory refuses a destroy only before it has begun, if the queue has no room for its mark.
 pub const ALLOCATIONS: &str = "sweep usual memory 200 | 200 0
 sweep great memory 100 | 100 0
 sweep reclaims memory 200 | 200 0

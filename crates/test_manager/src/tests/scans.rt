@@ -59,7 +59,7 @@ fn full(alloc: Global) -> Result<Vec<BlobEntryIndex>> {
     Ok(entries)
 }
 
-// The index of a step: `full`, or a count and its entries; with another checksum where its words begin with `other`.
+// Makes the index of a step: `full`, or a count and its entries. It has another checksum if the step's words begin with `other`.
 fn index_of(alloc: Global, step: &str) -> Result<[u8; 4096]> {
     let (count, words) = step.split_once(':').unwrap_or((step, ""));
     if count == "full" {
@@ -81,7 +81,7 @@ fn say_entry(said: &mut Said, entry: &EntryInfo) {
     said.number(":", u64::from(entry.addr.len));
 }
 
-// How many entries are listed, the first, and the last where there are more.
+// Notes how many entries are listed, the first, and the last if there are more.
 fn say_listed(said: &mut Said, listed: &[EntryInfo]) {
     said.number("", listed.len() as u64);
     if let Some(first) = listed.first() {

@@ -249,7 +249,7 @@ fn plain_step<A: Allocator>(word: &str, number: u64, id: u64) -> Life<A> {
     }
 }
 
-// The step of a line. None where no access was issued for it, `Err` where the driver has no memory.
+// Makes the step of a line. Gives None if no access was issued for it, and `Err` if the driver has no memory.
 fn step_of<A: Allocator + Clone>(
     alloc: Global,
     driver: &mut Driver<A>,
@@ -266,7 +266,7 @@ fn step_of<A: Allocator + Clone>(
     }
 }
 
-// The same, once more where steps come again and answers are in full.
+// Makes the same, and tries once more if memory is refused, steps come again and answers are in full.
 fn step_again<A: Allocator + Clone>(
     alloc: Global,
     driver: &mut Driver<A>,
@@ -280,7 +280,7 @@ fn step_again<A: Allocator + Clone>(
     }
 }
 
-// Applies a step, once more where steps come again and it is refused for memory.
+// Applies a step, and once more if steps come again and it is refused for memory.
 fn apply<A: Allocator + Clone>(driver: &mut Driver<A>, step: Life<A>) -> TestReply<A> {
     match driver.core.apply(&mut driver.env, step) {
         Reply::Refused(ErrorKind::Memory, back) if driver.way.comes_again => {

@@ -167,9 +167,9 @@ fn script_of(sweep: Sweep) -> Script {
     }
 }
 
-// What the script is answered at a line where a call of the disk fails: calls are counted from 1, lines from 0. After a
-// failed write of data, of zeros or of an index the block's other writes are dropped, the record is missed, or the one before is
-// answered, and the next batch takes another block; a failed read is issued, and the next one goes well.
+// Gives what the script is answered at a line if a call of the disk fails. Calls are counted from 1, lines from 0. After a failed write of
+// data, of zeros or of an index the block's other writes are dropped. Then the record is missed, or the one before is answered, and the next
+// batch takes another block. A failed read is issued, and the next one goes well.
 fn expected_step(call: u64, at: usize, wanted: &str) -> &str {
     match (call, at) {
         (1, 28) => "failed",
@@ -260,7 +260,7 @@ fn word_in(line: &str) -> &str {
     step.split_once(' ').unwrap_or((step, "")).0
 }
 
-// The first line, but for one, that two runs answer otherwise.
+// Gives the first line, except one, that two runs answer otherwise.
 fn first_other(one: &str, two: &str, but: usize) -> usize {
     for (at, (a, b)) in one.lines().zip(two.lines()).enumerate() {
         if at != but && a != b {
@@ -286,8 +286,8 @@ fn is_of_driver(word: &str) -> bool {
     word == "put" || word == "young" || word == "long" || word == "load"
 }
 
-// The call that fails and the line that is left out in the run that answers as one does whose line of this word had this
-// answer. None where a refusal gives no such answer. A commit may go on without memory, as if nothing were refused.
+// Gives the call that fails and the line that is left out in another run. That run answers as a run whose line of this word had this answer.
+// Gives None if a refusal gives no such answer. A commit may go on without memory, as if nothing were refused.
 fn other_way(script: &str, at: usize, word: &str, answer: &str) -> Option<(u64, usize)> {
     match answer {
         "committed 3" if word == "wrote" => Some((0, NO_LINE)),

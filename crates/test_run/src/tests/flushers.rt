@@ -7,8 +7,8 @@ use foyer_testing::refusing::Refusing;
 use std::alloc::Global;
 use std::test::Fail;
 
-// Even keys go to the first flusher, the others to the second. The last two parts end their blocks, so that no zeros are written
-// behind them; behind a fault they stand in blocks of their own, where the third report is of their indices.
+// Even keys go to the first flusher, the others to the second. The last two parts end their blocks, so no zeros are written behind them.
+// Behind a fault they stand in blocks of their own. There the third report is of their indices.
 const SCRIPT: &str = "put 2 3072: queued 1
 put 3 1: queued 2
 put 4 7168: queued 3
@@ -163,7 +163,7 @@ fn is_failed(line: &str) -> bool {
     line.starts_with("wrote ") && reply_in(line) == "failed"
 }
 
-// Whether the answers are those of the script but for one fault, which is named where it came.
+// Says whether the answers are those of the script except for one fault, which is named where it came.
 fn name_one_fault(answers: &str) -> bool {
     let mut failed = None;
     let mut is_late = false;
@@ -217,8 +217,7 @@ fn each_failed_call_of_the_disk_is_named_and_passed(
     Ok(())
 }
 
-// The answers to the script on a heap that refuses an allocation, where each refused step comes again. None where the
-// opening is refused.
+// Gives the answers to the script on a heap that refuses an allocation. Each refused step comes again. Gives None if the opening is refused.
 fn answers_on(alloc: Global, heap: &Refusing<Global>) -> Result<Option<String>> {
     let way = Way {
         comes_again: true,

@@ -84,7 +84,7 @@ type Opened<L> = LocalEngine<WideKey, Vec<u8>, TestAge, LowBits, Global, MemoryD
 
 const BLOCK: usize = 16384;
 
-// The key of a word: its digits, and 2^64 more where a `b` ends it.
+// Gives the key of a word: its digits, and 2^64 more if a `b` ends the word.
 fn key_of(word: &str) -> WideKey {
     match word.strip_suffix("b") {
         Some(digits) => WideKey(TWO_TO_64.saturating_add(digits.parse::<u128>().unwrap_or(0))),

@@ -8,7 +8,7 @@ use std::alloc::Global;
 
 const PAGE: usize = 4096;
 
-// Where a record stands, as the index of its blob says, and whether its bytes are those of such a record.
+// A record's place, as the index of its blob says, and whether its bytes are those of such a record.
 #[derive(Clone, Copy)]
 pub struct Listed {
     pub block: u32,
@@ -95,7 +95,7 @@ fn is_within(found: &Listed, blob: usize, index_size: usize, block_size: usize) 
         && found.offset.saturating_add(page_up(found.len)) <= block_size
 }
 
-// Lists the blob that begins there: where the next one would begin, None where the list ends.
+// Lists the blob that begins there. Gives where the next one would begin, or None if the list ends.
 fn list_blob(
     listed: &mut Vec<Listed>,
     bytes: &[u8],

@@ -76,14 +76,14 @@ pub fn live(
     })
 }
 
-// Runs a script on a heap that refuses nothing, where a call of the disk fails, and without a line.
+// Runs a script without one line, on a heap that refuses nothing. One call of the disk fails.
 pub fn ample(alloc: Global, script: Script, fails_at: u64, omitted: usize) -> Result<Run> {
     let heap = Refusing::new(alloc, 0);
     let way = Way { fails_at, ..BRIEF };
     live(alloc, &heap, script, way, omitted)
 }
 
-// A run on a heap that may refuse an allocation. None where this is what failed the opening.
+// Makes a run on a heap that may refuse an allocation. Gives None if this is what failed the opening.
 fn lived(alloc: Global, heap: &Refusing<Global>, script: Script, way: Way) -> Result<Option<Run>> {
     match live(alloc, heap, script, way, NO_LINE) {
         Ok(run) => Ok(Some(run)),
@@ -92,7 +92,8 @@ fn lived(alloc: Global, heap: &Refusing<Global>, script: Script, way: Way) -> Re
     }
 }
 
-// A run on a heap that refuses its n-th allocation, from 1: None where the opening fails; and whether that one was reached.
+// Makes a run on a heap that refuses its n-th allocation, from 1. The run is None if the opening fails. Also gives whether that allocation
+// was reached.
 pub fn refused_at(alloc: Global, n: u64, script: Script, way: Way) -> Result<(Option<Run>, bool)> {
     let heap = Refusing::new(alloc, n);
     let run = lived(alloc, &heap, script, way)?;

@@ -187,7 +187,7 @@ fn word_of_write<A: Allocator>(bytes: &WriteBytes<A>) -> &'static str {
     }
 }
 
-// Where each write goes, and how long it is.
+// Notes where each write goes, and how long it is.
 fn say_writes<A: Allocator>(said: &mut Said, block: BlockId, writes: &[Write<A>]) {
     said.number("write ", u64::from(block));
     for write in writes {

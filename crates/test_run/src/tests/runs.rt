@@ -9,7 +9,7 @@ use std::alloc::Global;
 #[derive(Drop)]
 pub struct Ran {
     pub answers: String,
-    // A line each record; nothing where the call of the disk that is to fail hasn't come.
+    // One line for each record, or nothing if the call of the disk that is to fail hasn't come.
     pub listed: String,
     // Whether that call has come, if there is one.
     pub has_failed: bool,

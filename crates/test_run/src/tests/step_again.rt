@@ -10,18 +10,18 @@ use std::test::Fail;
 const LIFE: &str =
     "put 1 a\nreceive\nbegin\nblock\nwrote\nwrote\nwrote\nend\nlook 1\nload\ndelete 1\nask 1\n";
 
-// The answers where the index has no room at the end of the block.
+// The answers if the index has no room at the end of the block.
 const FAILED: &str =
     "queued 1\nreceived\nbegan 1 0\nwrite 0\nnext\nnext\nfailed\nended 1 /\nmiss\nleft out\ndeleted 2\nno\n";
 
 const WHOLE: &str =
     "queued 1\nreceived\nbegan 1 0\nwrite 0\nnext\nnext\ncommitted 1\nended 1 /\nread\nentry a\ndeleted 2\nno\n";
 
-// The answers where the driver has no room for its piece.
+// The answers if the driver has no room for its piece.
 const NO_PIECE: &str =
     "no step Memory\nempty\nnot now\nnot now\nleft out\nleft out\nleft out\nnot now\nmiss\nleft out\ndeleted 1\nno\n";
 
-// The answers where the driver has no room for what it reads.
+// The answers if the driver has no room for what it reads.
 const NO_READ: &str =
     "queued 1\nreceived\nbegan 1 0\nwrite 0\nnext\nnext\ncommitted 1\nended 1 /\nread\nno step Memory\ndeleted 2\nno\n";
 
@@ -32,11 +32,11 @@ const DROPS: &str =
 const DROPPED: &str =
     "queued 1\nreceived\nbegan 1 0\nwrite 0, data 4096 4096, zeros 8192 4096, index 0 4096\nnext\nnext\ncommitted 1\nended 1 /\nqueued 2\ndropped 3\ndropped 4\nmiss\nreceived\nreceived\nreceived\nbegan 1 2\nwrite 0, data 8192 4096, zeros 12288 4096, index 0 4096\nnext\nnext\ncommitted 1\nended 2 /\nread 0 8192 53, entry 2 1\nqueued 5\nhanded back\nempty\nmiss\nbegan 1 1\nwrite 0\nended /\nno\nno\nno\n";
 
-// The answers where the index has no room for the first record.
+// The answers if the index has no room for the first record.
 const FIRST_FAILED: &str =
     "queued 1\nreceived\nbegan 1 0\nwrite 0, data 4096 4096, zeros 8192 4096, index 0 4096\nnext\nnext\nfailed\nended 1 /\nqueued 2\ndropped 3\ndropped 4\nmiss\nreceived\nreceived\nreceived\nbegan 1 2\nwrite 1, data 4096 4096, zeros 8192 4096, index 0 4096\nnext\nnext\ncommitted 1\nended 2 /\nread 1 4096 53, entry 2 1\nqueued 5\nhanded back\nempty\nmiss\nbegan 1 1\nwrite 1\nended /\nno\nno\nno\n";
 
-// The answers where it has no room for the second one.
+// The answers if the index has no room for the second record.
 const SECOND_FAILED: &str =
     "queued 1\nreceived\nbegan 1 0\nwrite 0, data 4096 4096, zeros 8192 4096, index 0 4096\nnext\nnext\ncommitted 1\nended 1 /\nqueued 2\ndropped 3\ndropped 4\nmiss\nreceived\nreceived\nreceived\nbegan 1 2\nwrite 0, data 8192 4096, zeros 12288 4096, index 0 4096\nnext\nnext\nfailed\nended 2 /\nmiss\nqueued 5\nhanded back\nempty\nmiss\nbegan 1 1\nwrite 1\nended /\nno\nno\nno\n";
 

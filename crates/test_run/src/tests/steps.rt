@@ -12,17 +12,15 @@ use std::test::Fail;
 
 type TestMove<A> = Move<u64, Value<A>, TestAge, A>;
 
-// Each case has its name, a script, and what it is answered. Ahead of the script stand how many blocks there are, which call
-// of the disk fails, from 1, and a word for the settings. An access that wasn't issued is passed over without an answer.
+// Each case has its name, a script, and what it is answered. Ahead of the script stand how many blocks there are, which call of the disk
+// fails, from 1, and a word for the settings. An access that wasn't issued is passed over without an answer.
 //
-// In pages a block has two, and holds records of one, however much room the buffer has: the header, the length of the text
-// and the key are 52 bytes of it. With a short buffer it has three pages. With no queue, no piece is taken while one byte is
-// queued.
+// A block has two pages, and holds records of one page, however much room the buffer has. The header, the length of the text and the key are
+// 52 bytes of that page. With a short buffer a block has three pages. With no queue, no piece is taken while one byte is queued.
 //
-// Three records fill a block of four pages: the fourth is indexed with the second block, and not with the first. Behind the
-// records of a block that isn't full a page of zeros is written, ahead of the index: so such a block has three writes. Where the
-// write to the only block fails, no other is clean, and the flusher waits. An older text isn't answered in the place of a
-// piece that was dropped or handed back.
+// Three records fill a block of four pages: the fourth is indexed with the second block, and not with the first. Behind the records of a
+// block that isn't full a page of zeros is written, ahead of the index. So such a block has three writes. If the write to the only block
+// fails, no other is clean, and the flusher waits. An older text isn't answered in the place of a piece that was dropped or handed back.
 const CASES: &str = "a delete hides an older put
 1 0 plain: put 7 a, delete 7, receive 0, receive 0, begin 0, block 0, wrote 0, wrote 0, wrote 0, end 0, look 7, ask 7
 = queued, deleted, received, received, began, write, next, next, committed, ended, miss, no
@@ -270,7 +268,7 @@ fn each_script_is_answered_so(rt: HostRuntime) -> std::result::Result<(), Fail> 
 const LIFE: &str =
     "put 1 a, receive 0, begin 0, block 0, wrote 0, wrote 0, wrote 0, end 0, look 1, read 0, put 2 b, receive 0, begin 0, block 0, wrote 0, wrote 0, wrote 0, end 0, look 2, read 0, read 1, look 1, read 0, read 1, read 2";
 
-// What that life is answered where this call fails, from 1.
+// What that life is answered if this call fails. Calls are counted from 1.
 const LIVES: &str =
     "call 0: queued, received, began, write, next, next, committed, ended, read, entry a, queued, received, began, write, next, next, committed, ended, read, entry b, read, entry a
 call 1: queued, received, began, write, failed, ended, miss, queued, received, began, write, next, next, committed, ended, read, entry b, miss
@@ -289,7 +287,7 @@ call 9: queued, received, began, write, next, next, committed, ended, read, entr
 const DROPS: &str =
     "put 1 a, receive 0, begin 0, block 0, wrote 0, wrote 0, wrote 0, end 0, put 2 b, put 1 c, look 1, ask 1, receive 0, receive 0, begin 0, block 0, wrote 0, wrote 0, wrote 0, end 0, look 2, read 0, long 2 12300, ask 2, receive 0, ask 2, look 2, begin 0, block 0, end 0, look 1, look 2";
 
-// What that life is answered where this call fails, from 1.
+// What that life is answered if this call fails. Calls are counted from 1.
 const DROPPED: &str =
     "call 0: queued, received, began, write, next, next, committed, ended, queued, dropped, miss, no, received, received, began, write, next, next, committed, ended, read, entry b, queued, yes, handed back, no, miss, began, write, ended, miss, miss
 call 1: queued, received, began, write, failed, ended, queued, dropped, miss, no, received, received, began, write, next, next, committed, ended, read, entry b, queued, yes, handed back, no, miss, began, write, ended, miss, miss

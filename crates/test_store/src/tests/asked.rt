@@ -89,7 +89,7 @@ fn say_load(said: &mut Said, answer: Result<Load<u128, String, NoProperties, Glo
     }
 }
 
-// How many steps of each kind a session made, but for those that are of no kind: a wait makes as many as it needs.
+// Notes how many steps of each kind a session made, except those that are of no kind: a wait makes as many as it needs.
 fn say_tally<S: CallerSession>(said: &mut Said, session: &S) {
     let tally = session.tally();
     said.word("tally");

@@ -30,7 +30,7 @@ use std::rt::Files;
 use std::sync::Wait;
 use std::thread::Threads;
 
-/// A config over a device, with the pickers and conditions that one has where none are given.
+/// A config over a device, with the pickers and conditions that a config has if none are given.
 pub(crate) type Blocks<D> = BlockEngineConfig<D, DefaultPickers, BuiltInCondition, HoldingGate>;
 
 // Builds the engine of a core.
@@ -48,8 +48,8 @@ fn filter_of(alloc: Global, admits: bool) -> Result<StorageFilter<BuiltInConditi
     filter.with_condition(alloc, BuiltInCondition::RejectAll(RejectAll))
 }
 
-// What is written again where a block is reclaimed: no record, or those of 68 bytes and more, which have texts of eight; and these
-// perhaps only where no write has to wait.
+// Gives the filter of what is written again when a block is reclaimed. It takes no record, or those of 68 bytes and more, which have texts of
+// eight bytes and more. It may take these only if no write has to wait.
 fn again_of(alloc: Global, over: &Over) -> Result<StorageFilter<BuiltInCondition, Global>> {
     if !over.writes_again {
         return filter_of(alloc, false);
@@ -62,7 +62,7 @@ fn again_of(alloc: Global, over: &Over) -> Result<StorageFilter<BuiltInCondition
     filter.with_condition(alloc, BuiltInCondition::IoThrottle(IoThrottle))
 }
 
-// The same config but for its sizes.
+// Gives the same config, except for its sizes.
 fn sized<D: Device>(config: Blocks<D>, sizes: &Sizes) -> Blocks<D> {
     let config = config
         .with_block_size(sizes.block_size())
@@ -82,7 +82,7 @@ fn sized<D: Device>(config: Blocks<D>, sizes: &Sizes) -> Blocks<D> {
     }
 }
 
-/// A config over a device, as words say, but for its pickers. Memory.
+/// Makes a config over a device, as words say, except for its pickers. Errors: `Memory`.
 pub(crate) fn config_of<D: Device>(
     alloc: Global,
     device: D,

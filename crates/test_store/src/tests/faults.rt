@@ -19,21 +19,21 @@ const WAYS: [&str; 4] = [
 // A script, and what it may answer.
 #[derive(Clone, Copy)]
 struct Script<'a> {
-    // Of each I/O engine the accesses that fail, up to this one.
+    // In each run one access of an I/O engine fails, of those with a lesser number than this.
     accesses: u64,
-    // What the store stands over, and the lines: some where accesses fail, and some by a store that is built again.
+    // What the store stands over, and the lines. In some lines accesses fail, and some are asked of a store that is built again.
     lines: &'a str,
     // Of each line the answers that it may get.
     may_answer: &'a str,
-    // What is among the answers where a destroy went well, and how they end where it left what it destroyed.
+    // What is among the answers if a destroy went well.
     destroyed: &'a str,
-    // How the answers end where it left nothing.
+    // How the answers end if the destroy left nothing.
     gone: [&'a str; 2],
 }
 
-// An opening reads four blocks, the gets two records, the destroy cleans four blocks; a flusher writes three times for each
-// put, its record, the zeros behind it and its index. What was deleted is gone, whatever fails, until the store is built again; what was destroyed is found then only where a clean
-// failed.
+// An opening reads four blocks, the gets read two records, and the destroy cleans four blocks. A flusher writes three times for each put: its
+// record, the zeros behind it and its index. What was deleted is gone, whatever fails, until the store is built again. What was destroyed is
+// found then only if a clean failed.
 const DELETES: Script<'static> = Script {
     accesses: 12,
     lines: " < put 1 a, wait, put 2 b, wait, get 1, get 2, del 1, get 1, destroy, get 2 / fails 0 < get 1, get 2",
@@ -42,8 +42,8 @@ const DELETES: Script<'static> = Script {
     gone: [" / miss, miss", " / miss, miss"],
 };
 
-// Three blocks, two flushers and a log: a block is reclaimed, whose long text is written again. Where a batch fails an older text
-// may be found, if it wasn't deleted; a log that can't be read refuses the store.
+// There are three blocks, two flushers and a log. A block is reclaimed, and its long text is written again. If a batch fails, an older text
+// may be found, if it wasn't deleted. A log that can't be read refuses the store.
 const RECLAIMS: Script<'static> = Script {
     accesses: 20,
     lines: ", blocks 3, flushers 2, log, again < put 1 aaaaaaaa, put 2 b, put 3 c, wait, get 1, get 2, del 2, wait, get 2, put 3 d, put 3 e, wait, get 1, get 3, put 5 f, wait, get 5, get 2, destroy, get 1, get 3, get 5, put 7 g, wait, get 7, close / fails 0 < get 1, get 2, get 3, get 5, get 7, put 8 h, wait, get 8",

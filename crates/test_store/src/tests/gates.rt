@@ -36,7 +36,7 @@ pub(crate) struct HoldingGate {
 }
 
 impl HoldingGate {
-    /// It holds at this point, or nowhere; where it naps, a thread lets others go first at every point.
+    /// Makes a gate that holds at this point, or nowhere. If it naps, a thread lets others go first at every point.
     pub(crate) fn new(
         alloc: Global,
         point: Option<Point>,

@@ -46,7 +46,7 @@ pub(crate) struct Sizes {
 /// What chooses the blocks that are reclaimed.
 #[derive(Clone, Copy, PartialEq, Eq)]
 pub(crate) enum Picks {
-    /// The pickers that a config has where none are given.
+    /// The pickers that a config has if none are given.
     Usual,
     /// No picker, so the generator.
     None,
@@ -85,11 +85,12 @@ pub(crate) struct Over {
     pub(crate) admits: bool,
     pub(crate) mode: RecoverMode,
     pub(crate) compression: Compression,
-    /// Where its threads are held.
+    /// The point at which its threads are held.
     pub(crate) point: Option<Point>,
     /// Whether each thread lets others go first at every point.
     pub(crate) naps: bool,
-    /// Whether reclaims have records of texts of eight bytes and more written again, and then only where no write has to wait.
+    /// Whether reclaims have records of texts of eight bytes and more written again. `is_patient` says whether they do so only if no write
+    /// has to wait.
     pub(crate) writes_again: bool,
     pub(crate) is_patient: bool,
     /// Which access of each I/O engine fails, with 0 none; a write after the bytes that are kept.
@@ -405,7 +406,7 @@ fn with(over: Over, word: &str, how: &str) -> Over {
     }
 }
 
-/// The same, but for what words say, which commas part.
+/// Gives the same, except for what the words say. Commas part the words.
 pub(crate) fn over_of(over: Over, words: &str) -> Over {
     let mut changed = over;
     for part in words.split(", ") {

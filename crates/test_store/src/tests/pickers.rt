@@ -84,7 +84,7 @@ fn alone(alloc: Global, picker: AnyPicker) -> Result<Vec<AnyPicker>> {
     Ok(pickers)
 }
 
-/// The pickers of a word; none but for one of them.
+/// Gives the pickers of a word, or none if the word stands for none of these.
 pub(crate) fn any(alloc: Global, picks: Picks) -> Result<Vec<AnyPicker>> {
     match picks {
         Picks::Fifo => alone(alloc, AnyPicker::Fifo(FifoPicker::default())),

@@ -139,7 +139,7 @@ fn say_printed(said: &mut Said, printed: &Printed) {
     said.number("status ", u64::from(printed.status));
 }
 
-/// Notes its status where its output is broken, and without lines its input too.
+/// Notes the program's status if its output is broken. Without lines its input is broken too.
 pub(crate) fn say_broken<
     R: Threads + Wait + std::rt::Clock + Files<File = File> + AllocGlobal + Copy + Send + 'static,
 >(rt: R, alloc: Global, said: &mut Said, asked: &str) -> Result<()> {

@@ -81,8 +81,8 @@ two threads load, each through an I/O engine of its own
 loads 2 < put 1 a, put 2 b, wait, seen 2, get 1, get 2 & seen 1, seen 2, get 1, get 2 | queued, queued, ok, yes, entry a, entry b & yes, yes, entry a, entry b
 ";
 
-// Where fewer than `clean` blocks are, a reclaim begins of its own; with 0 one begins for a flusher that waits alone. Elsewhere
-// nothing that is asked for hangs on whether one was done yet.
+// If fewer than `clean` blocks are clean, a reclaim begins of its own. With 0 a reclaim begins only for a flusher that waits. In the other
+// rows nothing that is asked for depends on whether a reclaim was done yet.
 const BUILT_AGAIN: &str =
     "what was put is found, also where no wait came behind it, since a close waits
 put 1 a, put 2 b, wait, put 3 c / get 1, get 2, get 3, get 4 | queued, queued, ok, queued / entry a, entry b, entry c, miss

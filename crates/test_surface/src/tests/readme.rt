@@ -41,7 +41,7 @@ where
     Ok(is_there)
 }
 
-/// A core by itself gives one reply to each step, and touches a disk only where it is opened.
+/// Asks a core by itself for the sequence of a put. The core gives one reply to each step, and touches a disk only when it is opened.
 fn first_sequence(alloc: Global) -> Result<Option<u64>> {
     let mut env = Env::with_default_pickers(alloc, 0)?;
     let settings = Settings::new(1, 16384);

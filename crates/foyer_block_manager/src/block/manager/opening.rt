@@ -24,7 +24,7 @@ pub struct ManagerConfig {
     pub flushers: u32,
     /// How many reclaims may run at a time.
     pub reclaimers: usize,
-    /// A reclaim may begin where fewer blocks are clean.
+    /// A reclaim may begin if fewer blocks than this are clean.
     pub clean_threshold: usize,
 }
 
@@ -132,8 +132,8 @@ impl<A: Allocator> BlockManager<A> {
         }
     }
 
-    /// Makes these evictable blocks clean, in this order, and lets the pickers know the others in the order of their ids.
-    /// `Config` where an id is there twice, or isn't that of an evictable block. After a refusal nothing has changed.
+    /// Makes these evictable blocks clean, in this order, and lets the pickers know the others in the order of their ids. Errors: `Config` if
+    /// an id is there twice, or isn't that of an evictable block. After a refusal nothing has changed.
     pub fn init<P: EvictionPicker>(
         &mut self,
         alloc: &A,

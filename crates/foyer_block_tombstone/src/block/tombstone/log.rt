@@ -151,9 +151,9 @@ impl<E: IoEngine + Drop, P: Partition + Drop, A: Allocator> TombstoneLog<E, P, A
     /// How many marks a page has room for.
     pub const SLOTS_PER_PAGE: usize = marks::SLOTS_PER_PAGE;
 
-    /// The log in the pages of the partitions, whose marks are listed behind what `tombstones` has, in order of their
-    /// slots. It goes on behind the mark of the greatest sequence, the last among equals, an empty one at slot 1.
-    /// OutOfRange where there is no page, or one isn't there; Memory, Io. After a refusal `tombstones` is as it was.
+    /// Opens the log in the pages of the partitions. It lists the log's marks behind what `tombstones` has, in order of their slots. The log
+    /// goes on behind the mark of the greatest sequence, the last one among equals. An empty log goes on at slot 1. Errors: `OutOfRange` if
+    /// there is no page, or a page isn't there; `Memory`; `Io`. After a refusal `tombstones` is as it was.
     pub fn open(
         alloc: A,
         partitions: Vec<P, A>,
@@ -211,9 +211,9 @@ impl<E: IoEngine + Drop, P: Partition + Drop, A: Allocator> TombstoneLog<E, P, A
         self.buffer.writes()
     }
 
-    /// Puts the marks at the numbers from the log's own on, and writes each page that they come into once; no marks
-    /// write nothing. OutOfRange where a page isn't there, or Io: then the log's number is as before and no page is
-    /// loaded, and any bytes may stand in the pages that the marks come into.
+    /// Puts the marks at the numbers from the log's own number on, and writes each page that they come into once. Without marks it writes
+    /// nothing. Errors: `OutOfRange` if a page isn't there; `Io`. Then the log's number is as before and no page is loaded. Any bytes may
+    /// stand in the pages that the marks come into.
     pub fn append(&mut self, marks: &[Tombstone]) -> Result<()>
         ensures places { self.new.places ≡ self.old.places }
         ensures slot { OnOk result ((self.old.slot + length marks.now < 2 ^ 64 → self.new.slot ≡ self.old.slot + length marks.now)

@@ -116,7 +116,7 @@ pub(super) fn put_marks(bytes: &mut [u8], page: u64, start: u64, slots: u64, mar
     }
 }
 
-/// The greatest sequence of the marks that were read, 0 where none was, and the slot behind it, 1 where none was.
+/// The greatest sequence of the marks that were read, and the slot behind that mark. If no mark was read, these are 0 and 1.
 #[derive(Clone, Copy, Debug)]
 pub(super) struct Newest {
     pub(super) sequence: u64,

@@ -23,12 +23,11 @@ use std::alloc::Allocator;
 use std::marker::Model;
 use std::mem::swap;
 
-/// One page of those that run through the partitions in order, in memory of its own. Where no page is loaded, its bytes
-/// are none.
+/// One page of those that run through the partitions in order, in memory of its own. If no page is loaded, it has no bytes.
 pub struct PageBuffer<E: IoEngine + Drop, P: Partition + Drop, A: Allocator> {
     engine: E,
     partitions: Vec<P, A>,
-    // The bytes of its page; none where no page is loaded.
+    // The bytes of its page, or none if no page is loaded.
     shown: Raw<A>,
     // The memory of a page while none is loaded, else no bytes; None only while an engine has it.
     spare: Option<Raw<A>>,
@@ -105,7 +104,7 @@ impl<E: IoEngine + Drop, P: Partition + Drop, A: Allocator + Clone> PageBuffer<E
         })
     }
 
-    /// The page of that number, which is read. OutOfRange where it isn't there, Memory, Io.
+    /// Reads the page of that number. Errors: `OutOfRange` if the page isn't there; `Memory`; `Io`.
     pub fn open(
         alloc: A,
         engine: E,
@@ -151,8 +150,8 @@ impl<E: IoEngine + Drop, P: Partition + Drop, A: Allocator> PageBuffer<E, P, A> 
         }
     }
 
-    /// Reads the page of that number in the place of what it had. After a refusal, OutOfRange where the page isn't there
-    /// or Io, no page is loaded.
+    /// Reads the page of that number in the place of the page that it had. Errors: `OutOfRange` if the page isn't there; `Io`. After a refusal
+    /// no page is loaded.
     pub fn load(&mut self, page: u64) -> Result<()>
         ensures places { self.new.places ≡ self.old.places }
         ensures kept { E.disk self.new.engine ≡ E.disk self.old.engine }
@@ -215,14 +214,14 @@ impl<E: IoEngine + Drop, P: Partition + Drop, A: Allocator> PageBuffer<E, P, A> 
         self.writes
     }
 
-    /// The bytes of its page; none where no page is loaded.
+    /// Gives the bytes of its page, or none if no page is loaded.
     pub fn as_slice(&self) -> &[u8]
         ensures { result.now ≡ self.now.bytes }
     {
         self.shown.as_slice()
     }
 
-    /// The bytes of its page, to be written over; none where no page is loaded.
+    /// Gives the bytes of its page, to be written over, or none if no page is loaded.
     pub fn as_mut_slice(&mut self) -> &mut [u8]
         ensures* writes_back { sem 𝓛
             (Lends (the_row E.row P.row A.row E.IoEngine P.Partition A.Allocator) (Array u8 0) self.entry result
@@ -255,7 +254,7 @@ impl<E: IoEngine + Drop, P: Partition + Drop, A: Allocator> PageBuffer<E, P, A> 
         self.load(page)
     }
 
-    // How many pages its partitions have; none where that is too many.
+    // Gives how many pages its partitions have, or None if that is too many.
     pub(super) fn page_count(&self) -> Option<u64>
         ensures some { IfSome result (λ n. (n ≡ pages_of self.now.places) × (n < 2 ^ 55)) }
         ensures none { IfNone result (2 ^ 55 ≤ pages_of self.now.places) }

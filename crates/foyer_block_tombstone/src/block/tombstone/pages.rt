@@ -15,7 +15,7 @@ use std::alloc::Allocator;
 // The most pages whose slots are counted by less than 63 bits.
 const MAX_PAGES: u64 = 36028797018963967;
 
-// How many pages the partitions have; none where that is too many.
+// Gives how many pages the partitions have, or None if that is too many.
 pub(super) fn page_count<P: Partition>(partitions: &[P]) -> Option<u64>
     ensures some { IfSome result (λ n. (n ≡ pages_of (places P.extent P.bytes partitions.now)) × (n < 2 ^ 55)) }
     ensures none { IfNone result (2 ^ 55 ≤ pages_of (places P.extent P.bytes partitions.now)) }

@@ -41,8 +41,8 @@ impl<A: Allocator> Model for Raw<A> {
 }
 
 impl<A: Allocator> Raw<A> {
-    /// Zeros, `capacity` bytes of them rounded up to whole pages. OutOfRange where that passes
-    /// `usize::MAX`, Memory where it was refused.
+    /// Gives `capacity` bytes of zeros, rounded up to whole pages. Errors: OutOfRange if the rounded
+    /// length passes `usize::MAX`, Memory if memory was refused.
     #[tactic(auto, unfolding(foyer_format_layout::specs::Page::page_up))]
     pub fn new(alloc: A, capacity: usize) -> Result<Raw<A>>
         ensures zeros { IfOk result (λ r. r ≡ replicate (page_up capacity) 0) }
@@ -88,8 +88,8 @@ impl<A: Allocator> Raw<A> {
 impl<A: Allocator + Clone> Clone for Raw<A> {
     ghost is_clone = { λ r s. s ≡ r };
 
-    /// The same bytes in memory of their own. It fails where an allocation, or a clone of the allocator,
-    /// was refused.
+    /// Copies the bytes to memory of their own. Fails if an allocation, or a clone of the allocator, was
+    /// refused.
     fn clone(&self) -> std::result::Result<Raw<A>, AllocError> {
         let alloc = self.bytes.allocator().clone()?;
         let bytes = Vec::from_slice(alloc, self.as_slice())?;

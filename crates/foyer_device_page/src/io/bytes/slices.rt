@@ -47,7 +47,7 @@ impl<A: Allocator> Model for IoSlice<A> {
 impl<A: Allocator> IoSlice<A> {
     ghost use Rattle.foyer_device_page.specs.Section.{all_of, bytes_of, part_of};
 
-    /// All of a buffer. Where memory was refused, the buffer is handed back.
+    /// Takes all of a buffer. If memory was refused, hands the buffer back.
     pub fn from_raw(alloc: A, raw: Raw<A>) -> std::result::Result<IoSlice<A>, AllocFailed<Raw<A>>>
         ensures all { IfOk result (λ s. s ≡ all_of raw) }
         ensures handed_back { IfErr result (λ e. e.value ≡ raw) }
@@ -73,8 +73,8 @@ impl<A: Allocator> IoSlice<A> {
         self.end - self.start
     }
 
-    /// A range of these bytes, counted from their start, as one more owner of the buffer; nothing is
-    /// copied. Memory where the owners can't be counted any more.
+    /// Gives a range of these bytes, counted from their start, as one more owner of the buffer.
+    /// Nothing is copied. Error: Memory if the owners can't be counted any more.
     #[tactic(auto, using(crate::proofs::Parts::parts))]
     pub fn slice(&self, range: Range<usize>) -> Result<IoSlice<A>>
         requires start { range.start % 4096 ≡ 0 }
@@ -95,7 +95,8 @@ impl<A: Allocator> IoSlice<A> {
         })
     }
 
-    /// The whole buffer, to be written over, or this slice again where it has another owner.
+    /// Gives the whole buffer, to be written over. If the buffer has another owner, gives this slice
+    /// again.
     pub fn try_into_unique(self) -> std::result::Result<IoSliceMut<A>, IoSlice<A>>
         ensures whole { IfOk result (λ m. m ≡ self.whole) }
         ensures handed_back { IfErr result (λ s. s ≡ self) }
@@ -107,7 +108,7 @@ impl<A: Allocator> IoSlice<A> {
         }
     }
 
-    /// The whole buffer, to be written over; `None` where it has another owner.
+    /// Gives the whole buffer, to be written over, and `None` if the buffer has another owner.
     pub fn try_into_io_slice_mut(self) -> Option<IoSliceMut<A>>
         ensures { IfSome result (λ m. m ≡ self.whole) }
     {

@@ -39,8 +39,8 @@ impl<A: Allocator> Model for IoSliceMut<A> {
 }
 
 impl<A: Allocator> IoSliceMut<A> {
-    /// Zeros, `capacity` bytes of them rounded up to whole pages. OutOfRange where that passes
-    /// `usize::MAX`, Memory where it was refused.
+    /// Gives `capacity` bytes of zeros, rounded up to whole pages. Errors: OutOfRange if the
+    /// rounded length passes `usize::MAX`, Memory if memory was refused.
     pub fn new(alloc: A, capacity: usize) -> Result<IoSliceMut<A>>
         ensures zeros { IfOk result (λ m. m ≡ replicate (page_up capacity) 0) }
         ensures beyond { (result ≡ Err error.OutOfRange) ↔ (2 ^ 64 ≤ page_up capacity) }
@@ -85,8 +85,8 @@ impl<A: Allocator> IoSliceMut<A> {
         self.raw.as_mut_slice()
     }
 
-    /// The same bytes as a buffer that may have several owners. Where memory was refused, they are
-    /// handed back.
+    /// Gives the same bytes as a buffer that may have several owners. If memory was refused, hands
+    /// the bytes back.
     pub fn into_io_slice(
         self,
         alloc: A,

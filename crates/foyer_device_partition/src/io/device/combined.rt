@@ -118,7 +118,7 @@ impl<D: Device, A: Allocator + Clone> DeviceBuilder<A> for CombinedDeviceBuilder
 
     ghost limits = { λ b. b.throttle };
 
-    /// Config where the devices have more files than there are numbers of files.
+    /// Builds the combined device. Error: Config if the devices have more files than there are numbers of files.
     fn build<R: Files>(self, _rt: &R, alloc: A, now: u64) -> Result<CombinedDevice<D, A>> {
         let CombinedDeviceBuilder { devices, throttle } = self;
         let capacity = capacity_of(devices.as_slice());
@@ -202,7 +202,7 @@ impl<D: Device, A: Allocator> CombinedDevice<D, A> {
         self.first = first_count(self.devices.as_slice(), self.present);
     }
 
-    // Leaves each device that has no space, up to one that has. False where there is none.
+    // Leaves each device that has no space, up to one that has. Gives false if there is none.
     fn settle(&mut self, size: usize) -> bool
         ensures never_back { self.old.present ≤ self.new.present }
         ensures same { self.new ≡ record self.old { present = self.new.present } }

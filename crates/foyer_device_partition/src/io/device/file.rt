@@ -24,7 +24,8 @@ pub struct FileDeviceBuilder<'a> {
 }
 
 impl<'a> FileDeviceBuilder<'a> {
-    /// A device over the file at a path, which is made where it is missing. It has no capacity yet.
+    /// Begins a device over the file at a path. The file is made if it is missing. The device has no
+    /// capacity yet.
     pub fn new(path: &'a str) -> FileDeviceBuilder<'a>
         ensures capacity { result.capacity ≡ None }
         ensures limits { result.throttle ≡ unlimited }

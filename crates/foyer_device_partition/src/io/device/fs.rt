@@ -25,8 +25,8 @@ pub struct FsDeviceBuilder<'a> {
 }
 
 impl<'a> FsDeviceBuilder<'a> {
-    /// A device over the directory at a path, which is made with its parents where it is missing. It has no capacity
-    /// yet.
+    /// Begins a device over the directory at a path. The directory is made with its parents if it is missing. The
+    /// device has no capacity yet.
     pub fn new(dir: &'a str) -> FsDeviceBuilder<'a>
         ensures capacity { result.capacity ≡ None }
         ensures limits { result.throttle ≡ unlimited }
@@ -238,8 +238,8 @@ impl<A: Allocator> Device for FsDevice<A> {
         self.sizes.len() < MAX_PARTITIONS && size > self.capacity.saturating_sub(self.sizes.total())
     }
 
-    /// The partition's file is made where it is missing and gets exactly the partition's length: a shorter one is
-    /// lengthened by zeros, a longer one cut. It stays so where Memory is answered after that.
+    /// Makes the partition's file if it is missing, and gives it exactly the partition's length. A shorter file is
+    /// lengthened by zeros, a longer file is cut. The file stays so if Memory is answered after that.
     fn create_partition<R: Files>(&mut self, rt: &R, size: usize) -> Result<FsPartition> {
         self.admit(size)?;
         let id = self.sizes.len() as PartitionId;

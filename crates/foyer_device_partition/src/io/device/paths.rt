@@ -7,7 +7,8 @@ use std::alloc::Allocator;
 use std::fs::{OpenFile, OpenOptions};
 use std::rt::Files;
 
-// Gives the file at a path, which is made where it is missing, that many bytes. What it gains are zeros.
+// Gives the file at a path that many bytes, and makes the file if it is missing. The bytes that it gains
+// are zeros.
 pub(super) fn lay_file<R: Files>(rt: &R, path: &str, len: usize) -> Result<()>
     ensures { IfErr result (λ e. e ≡ error.Io) }
 {

@@ -10,7 +10,7 @@ pub(super) struct Slot {
 }
 
 impl Slot {
-    // Where an offset of it lies in the file.
+    // Gives where an offset of the slot lies in the file.
     pub(super) fn translate(&self, offset: u64) -> u64
         ensures { result ≡ self.now.start + min offset self.now.size }
     {

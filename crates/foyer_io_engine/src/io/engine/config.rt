@@ -17,7 +17,8 @@ pub struct IoEngineBuildContext<'a, A: Allocator> {
 pub trait IoEngineConfig<R> {
     type Engine: IoEngine + Drop;
 
-    /// An engine over the files of the context. Io where one couldn't be opened, Memory.
+    /// Builds an engine over the files of the context. Errors: Io if a file couldn't be opened,
+    /// Memory.
     fn build<A: Allocator>(
         &self,
         rt: &R,
@@ -25,7 +26,7 @@ pub trait IoEngineConfig<R> {
     ) -> Result<Self::Engine>
         ensures refused { IfErr result (λ e. (e ≡ error.Io) ⊎ (e ≡ error.Memory)) };
 
-    /// The config in a box. AllocError where that was refused.
+    /// Puts the config in a box. Error: AllocError if the box was refused.
     fn boxed<A: Allocator>(self, alloc: A) -> std::result::Result<Box<Self, A>, AllocError>
     where
         Self: Sized + Drop,

@@ -46,7 +46,7 @@ impl<E: IoEngine + Drop> FaultIoEngine<E> {
     }
 }
 
-// Whether a call fails, where so many are left up to the one that does.
+// Says whether a call fails, if so many calls are left up to the one that does.
 fn fails(left: &mut u64, stop: bool) -> bool
     ensures later { 1 < left.old → (result ≡ false) × (left.new + 1 ≡ left.old) }
     ensures now { left.old ≡ 1 → (result ≡ true) × (left.new ≡ 0) }

@@ -43,7 +43,7 @@ impl<A: Allocator> MemoryIoEngine<A> {
         }
     }
 
-    /// One file more, of the next number: that many zeros, whose memory is first touched where it is written. Memory.
+    /// Adds a file with the next number. The file has this many zeros, and its memory is first touched when it is written. Errors: `Memory`.
     pub fn add_file(&mut self, alloc: A, len: usize) -> Result<()>
         ensures added { OnOk result (self.new ≡ self.old ++ record { len = len; bytes = [] } ∷ []) }
         ensures kept { OnErr result (self.new ≡ self.old) }

@@ -6,7 +6,7 @@ use foyer_device_page::error::Result;
 use std::alloc::Allocator;
 use std::marker::Model;
 
-/// Bytes of a fixed number in memory, which is first touched where it is written. What was never written is zeros.
+/// A fixed number of bytes in memory. The memory is first touched when it is written. Bytes that were never written are zeros.
 #[derive(Drop)]
 pub struct MemoryFile<A: Allocator> {
     // The bytes up to the last one that was written.
@@ -46,7 +46,7 @@ fn put_at<A: Allocator>(memory: &mut Vec<u8, A>, start: usize, bytes: &[u8])
     }
 }
 
-// Fills `into` with the bytes from a place on, and with zeros where none were written.
+// Fills `into` with the bytes from a place on. A byte that was never written is zero.
 fn get_at(memory: &[u8], start: usize, into: &mut [u8])
     ensures { (i : ℕ) → i < length into.new → slice_index into.new i ≡ slice_index memory.now (start + i) }
 {

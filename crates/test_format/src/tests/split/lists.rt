@@ -12,7 +12,7 @@ const INDEX: usize = 4096;
 // The entries that an index of one page has room for.
 const CAPACITY: usize = 170;
 
-// Where it has come to: a blob, its present part and the bytes of that, and the entries of the blob.
+// How far the splitter has come: a blob, its present part and the bytes of that part, and how many entries the blob lists.
 #[derive(Drop)]
 struct Slow {
     block_size: usize,
@@ -40,7 +40,7 @@ impl Slow {
         self.listed = 0;
     }
 
-    // How many blocks the records take, and where each of them stands.
+    // Gives how many blocks the records take, and where each of them stands.
     fn place(
         &mut self,
         alloc: Global,
@@ -113,7 +113,7 @@ fn list(alloc: Global, number: u64) -> Result<Vec<(u64, usize), Global>> {
     Ok(records)
 }
 
-// Whether 500 lists, one behind another, stand where they should.
+// Says whether 500 lists, one behind another, stand where they should.
 fn agree(alloc: Global, ctx: &mut SplitCtx<Global>, slow: &mut Slow, first: u64) -> Result<bool>
     requires room { ctx.old.sizes.index + 12288 ≤ ctx.old.sizes.block }
 {

@@ -98,8 +98,8 @@ a load is throttled where its caller says so, and the key has a text
 memory unread, blocks 1 < throttled 1, put 1 a, wait, throttled 1, throttled 2, get 1, del 1, throttled 1 | miss queued ok throttled miss a ok miss
 ";
 
-// Of blocks beside a log, or without one: an opening reads the log's page once, and of four blocks one index each; each batch writes
-// the log once where it has marks. A write that fails keeps 16 bytes: the first slot of the log, which has no mark at first.
+// The rows have blocks beside a log, or blocks without one. An opening reads the log's page once, and of four blocks one index each. Each
+// batch that has marks writes the log once. A write that fails keeps 16 bytes: the first slot of the log, which has no mark at first.
 pub const DELETED: &str = "an append that fails forgets its deletes alone
 memory blocks 4, queue 8192, log, keeps 16, log-fails 1 < put 1 a, put 2 b, wait, del 2, wait, get 1, get 2 / whole < get 1, get 2 | refused Io / miss miss
 memory blocks 4, queue 8192, log, keeps 16, log-fails 2 < put 1 a, put 2 b, wait, del 2, wait, get 1, get 2 / whole < get 1, get 2 | queued queued ok ok ok a miss / a b
@@ -158,9 +158,9 @@ a record that is written again stands behind the new one: three fill the one blo
 moves blocks 1, admits 60 < put 1 a long text, receive, begin, block, wrote, wrote, wrote, end, put 2 b, receive, begin, block, wrote, wrote, wrote, end, put 3 c, receive, begin, block, wrote, wrote, end, put 4 d, receive, begin, block, block, reclaim, read 0, read 0, read 0, read 0, forget 0, reclaimed 0, idle, block, wrote, wrote, wrote, end, receive, begin, block, wrote, wrote, wrote, end, look 4, look 1, look 2, look 3 | -, -, -, write 0, next, next, committed 1, -, -, -, -, write 0, next, next, committed 1, -, -, -, -, write 0, next, committed 1, -, -, -, -, write 0, no block, picked 0, scan 0 4096 4096, listed, clean 0, done, true, write 0, next, next, committed 1, -, -, -, write 0, next, next, committed 1, -, at 4096, at 8192, miss, miss, zeros no
 ";
 
-// What a life left stays in its blocks behind their first pages, which a destroy cleans. The index of a block lists 170 records, so
-// that 170 puts fill it, and a scan goes on behind them, where the earlier life's second index of this block stood: its 84 records
-// have greater sequences than the later life's.
+// What a life left stays in its blocks behind their first pages, which a destroy cleans. The index of a block lists 170 records, so 170 puts
+// fill it. A scan goes on behind them, where the earlier life's second index of this block stood. The 84 records of that index have greater
+// sequences than the later life's.
 pub const LIVES: &str =
     "nothing that an earlier life left in a block is found behind what a later one wrote there: each key's last put is answered, or a miss
 memory blocks 8, pages 256, pool 4194304 < puts 0 699 old, wait, destroy, close / puts 170 254 new, puts 1000 1084 new, wait, close / gets 170 254 new, gets 1000 1084 new, gets 0 169 new, gets 255 699 new | queued 700 ok ok ok / queued 85 queued 85 ok ok / newest 85 missed 0 others 0 newest 85 missed 0 others 0 newest 0 missed 170 others 0 newest 0 missed 445 others 0

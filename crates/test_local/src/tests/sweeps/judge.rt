@@ -22,18 +22,18 @@ pub struct Judge {
     pub is_met: bool,
     /// How many destroys were refused memory.
     pub destroys: u64,
-    // Whether so much is queued that a text isn't taken, where that is known.
+    // Whether so much is queued that a text isn't taken, if that is known.
     is_full: Option<bool>,
     // Whether every text that is queued keeps others from being taken.
     is_narrow: bool,
-    // Whether blocks are reclaimed, so that any text may be missed where a fault moved the reclaims.
+    // Whether blocks are reclaimed, so that any text may be missed if a fault moved the reclaims.
     is_reclaimed: bool,
     // Whether all accesses fail from the fault on.
     is_stopped: bool,
 }
 
-/// Before the first life: of a queue of no bytes or more, where blocks are reclaimed or not, and where one fault may be the first of
-/// all.
+/// Makes the judge before the first life. It is told whether the queue has no bytes, whether blocks are reclaimed, and whether all accesses
+/// fail from the fault on.
 pub fn judge_of(is_narrow: bool, is_reclaimed: bool, is_stopped: bool) -> Judge {
     Judge {
         table: [NOTHING_KNOWN; KEYS],
@@ -256,7 +256,7 @@ fn behind_line(judge: Judge, line: &str) -> Judge {
     judged(judge, call, number_of(key) as usize, answer, true)
 }
 
-/// Notes whether lines may be answered so where no fault is due.
+/// Notes whether lines may be answered so if no fault is due.
 pub fn say_judged(said: &mut Said, asked: &str) {
     let mut judge = judge_of(false, false, false);
     for line in asked.split(", ") {

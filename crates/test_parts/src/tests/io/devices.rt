@@ -22,7 +22,7 @@ fn noop(rt: &HostRuntime, capacity: usize) -> Result<AnyDevice<Global>> {
     Ok(AnyDevice::Noop(device))
 }
 
-// In a file, with that capacity, or with none where it is no number.
+// Makes a device in a file, with that capacity, or with none if it is no number.
 fn file(rt: &HostRuntime, capacity: &str, path: &str) -> Result<AnyDevice<Global>> {
     let mut builder = FileDeviceBuilder::new(path);
     if let Ok(capacity) = capacity.parse::<usize>() {
@@ -32,7 +32,7 @@ fn file(rt: &HostRuntime, capacity: &str, path: &str) -> Result<AnyDevice<Global
     Ok(AnyDevice::File(device))
 }
 
-// A directory, with that capacity, or with none where it is no number.
+// Makes a device in a directory, with that capacity, or with none if it is no number.
 fn directory(rt: &HostRuntime, capacity: &str, path: &str) -> Result<AnyDevice<Global>> {
     let mut builder = FsDeviceBuilder::new(path);
     if let Ok(capacity) = capacity.parse::<usize>() {
@@ -72,7 +72,7 @@ fn say_new<P: Partition + Copy>(said: &mut Said, made: Result<P>) {
     }
 }
 
-// The file of an offset, and where it lies there.
+// Notes the file of an offset, and where the offset lies there.
 fn say_at<D: Device>(said: &mut Said, device: &D, id: &str, offset: &str) {
     let id = id.parse::<u32>().unwrap_or(0);
     if (id as usize) < device.partitions() {
@@ -177,7 +177,7 @@ fn say_calls<D: Device>(said: &mut Said, rt: &HostRuntime, device: &mut D, calls
     }
 }
 
-// Calls of a part of the device, with that capacity, or with the device's where it is no number.
+// Makes calls of a part of the device. The part has that capacity, or the device's capacity if that is no number.
 fn say_part(
     said: &mut Said,
     rt: &HostRuntime,

@@ -21,7 +21,7 @@ fn pages(alloc: Global, count: usize, byte: u8) -> Result<IoSliceMut<Global>> {
     Ok(buffer)
 }
 
-// What so many pages from an offset on are, one where no number of them is said.
+// Notes what this many pages from an offset on are. It is one page if no number of pages is said.
 fn say_read<E: IoEngine, P: Partition>(
     said: &mut Said,
     alloc: Global,
@@ -231,7 +231,7 @@ fn say_files(
     Ok(())
 }
 
-// The same where the first call fails and keeps ten bytes.
+// Notes the same if the first call fails and keeps ten bytes.
 fn say_torn(
     said: &mut Said,
     rt: &HostRuntime,

@@ -18,7 +18,7 @@ fn all_kept(rt: &impl Wait, keeper: &Bytes<Heap<'_>>) -> Result<(u8, u8, u8)> {
     Ok((one, two, three))
 }
 
-// Inserts once more where memory was refused. How often it was; Config where a refused insertion changed what is kept.
+// Inserts once more if memory was refused. Gives how often it was refused, or Config if a refused insertion changed what is kept.
 fn insert<'a>(rt: &impl Wait, keeper: &Bytes<Heap<'a>>, piece: &Byte<Heap<'a>>) -> Result<u32> {
     let before = all_kept(rt, keeper)?;
     match keeper.insert(rt, piece) {

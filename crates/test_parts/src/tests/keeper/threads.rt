@@ -17,7 +17,7 @@ fn insert_all(rt: &impl Wait, alloc: Global, keeper: &Bytes<Global>, first: u64)
     Ok(())
 }
 
-// How many pieces are found where both inserted theirs.
+// Counts the pieces that are found under the hashes at which both threads inserted theirs.
 fn found(rt: &impl Wait, keeper: &Bytes<Global>) -> Result<u32> {
     let mut found = 0u32;
     for hash in 0..2000u64 {

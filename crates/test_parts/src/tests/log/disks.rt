@@ -157,7 +157,7 @@ pub fn written<R: Wait + Clone + Drop + Files>(
     Ok(log.page_writes().wrapping_sub(old))
 }
 
-// The same where the n-th access fails: whether it was refused with Io, and the slot then.
+// Appends this many marks when the n-th access fails. Gives whether the append was refused with Io, and the slot then.
 pub fn refused<R: Wait + Clone + Drop>(
     rt: &R,
     disk: &Disk,

@@ -42,7 +42,7 @@ fn say_opened(said: &mut Said, answer: Result<(u64, usize)>) {
     }
 }
 
-// The slot after an append, behind `Io` where it was refused so.
+// Notes the slot after an append, behind `Io` if the append was refused so.
 fn say_append(said: &mut Said, answer: Result<(bool, u64)>) {
     match answer {
         Ok((is_refused, slot)) => said.number(if is_refused { "Io:" } else { "" }, slot),

@@ -173,8 +173,8 @@ fn rows_of(alloc: Global, rows: &str) -> Result<String> {
     said.text()
 }
 
-// Names, and below each the conditions of a filter, what they are asked, and what is answered: a wait in seconds and nanoseconds,
-// `!` where it says that it admits, `?` that it rejects.
+// Names, and below each name the conditions of a filter, what they are asked, and what is answered. An answer is a wait in seconds and
+// nanoseconds. `!` stands behind an answer that says that it admits, `?` behind one that says that it rejects.
 const ROWS: &str = "waits are added up
 always: 2 3 < once | 5+0
 always: 2 reject < once | reject?

@@ -135,7 +135,7 @@ pub fn say_wait(said: &mut Said, wait: Duration) {
     said.number("+", u64::from(wait.subsec_nanos()));
 }
 
-// How long writes wait at some moments, where so many bytes a second are let through and so many were written at 0.
+// Notes how long writes wait at some moments, if this many bytes a second are let through and this many were written at 0.
 fn say_waits(
     rt: &impl Wait,
     alloc: Global,

@@ -88,7 +88,7 @@ fn draw_marks(alloc: Global, generator: &mut Pcg32) -> Result<Vec<Tombstone>, Fa
     Ok(marks)
 }
 
-// Whether a hash is found where the slow reader found it.
+// Says whether a hash is found at the place where the slow reader found it.
 fn is_found_so(recovered: &Recovered<Global>, expected: &slow::Expected, hash: u64) -> bool {
     match (
         recovered.index.get(hash),

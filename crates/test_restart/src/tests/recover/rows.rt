@@ -109,7 +109,7 @@ fn recover(alloc: Global, device: &mut Device) -> Result<Recovered<Global>> {
     }
 }
 
-// Where a hash lies: its block, and the filling, the offset and the length of its record.
+// Notes where a hash lies: its block, and the filling, the offset and the length of its record.
 fn say_where(said: &mut Said, recovered: &Recovered<Global>, hash: u64) {
     match recovered.index.get(hash) {
         Some(address) => {
@@ -179,9 +179,8 @@ fn rows_of(alloc: Global, rows: &str) -> Result<String> {
     said.text()
 }
 
-// Names, and below each its devices: the mode, then offsets whose reads fail, marks, workers and blocks. What is asked is the
-// block of a hash, or where its record is (block.filling+offset:length), the next sequence, the clean blocks, or how many reads
-// there were.
+// Names, and below each name its devices: the mode, then offsets whose reads fail, marks, workers and blocks. A row asks for the block of a
+// hash, for where its record is (block.filling+offset:length), for the next sequence, for the clean blocks, or for how many reads there were.
 const ROWS: &str = "zeroed blocks are clean
 none / zeros / zeros / zeros < next, clean, at 0 | 1 [012] none
 quiet / zeros / zeros / zeros < next, clean, at 0 | 1 [012] none
@@ -278,7 +277,7 @@ fn by_a_worker(alloc: Global, disk: &mut ForgedDisk, n: u64) -> Outcome {
     outcome_of(is_right, heap.has_refused())
 }
 
-// By the runner alone, where the second block is of zeros.
+// Recovers by the runner alone. The second block is of zeros.
 fn alone(alloc: Global, disk: &mut ForgedDisk, n: u64) -> Outcome {
     let heap = Refusing::new(alloc, n);
     let is_right = match runner(RecoverMode::Quiet, 2).run(&&heap, disk, 2, &[]) {

@@ -67,8 +67,8 @@ fn stop_twice(
     stop(alloc, run, torn, &[None, None], tally)
 }
 
-// Reclaims the block of the first three puts, where the other two stand in another, and stops before its clean, inside, and
-// behind it.
+// Reclaims the block of the first three puts. The other two puts stand in another block. The run stops before the block's clean, inside it,
+// and behind it.
 fn stop_around_a_clean(alloc: Global) -> Result<Tally> {
     let settings = Settings {
         clean_block_threshold: 3,

@@ -70,13 +70,13 @@ fn add_reclaim(moves: &mut Vec<TextMove>, block: u32, is_cleaned: bool) -> Resul
     Ok(())
 }
 
-// The sequences that are found of the keys in their order, 0 for none, where nine puts fill three blocks, and the first two
-// blocks are reclaimed, the second one up to its clean or before it.
+// Gives the sequences that are found of the keys in their order, 0 for none. Nine puts fill three blocks, and the first two blocks are
+// reclaimed. The second of them is reclaimed up to its clean or before it.
 fn found_behind(alloc: Global, is_cleaned: bool) -> Result<String> {
     let mut moves = Vec::new(alloc);
     for put in 1..10 {
         add_flush(alloc, &mut moves, put, 0)?;
-        // Where the block had no room it was left, and this asks for the next one.
+        // If the block had no room, it was left, and this asks for the next one.
         moves.push(Move::FlushBlock { flusher: 0 })?;
         moves.push(Move::FlushWrote { flusher: 0 })?;
         moves.push(Move::FlushWrote { flusher: 0 })?;

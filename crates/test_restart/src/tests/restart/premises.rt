@@ -1,4 +1,4 @@
-//! What is lost where a run isn't one of which the restart law speaks.
+//! What is lost if a run isn't one of which the restart law speaks.
 use crate::tests::restart::reopened::{copy_of, find, reopen};
 use crate::tests::restart::running::{
     NextBlock, Running, address_of, apply, begin, begin_flush, begin_over, do_next, end_flush,
@@ -15,7 +15,7 @@ use foyer_testing::said::Said;
 use std::alloc::Global;
 use std::test::Fail;
 
-// Config where a step was out of turn.
+// Gives Config if a step was out of turn.
 fn in_turn(is: bool) -> Result<()> {
     if is { Ok(()) } else { Err(Error::Config) }
 }
@@ -178,7 +178,7 @@ fn what_the_law_leaves_out_is_lost_so(rt: HostRuntime) -> std::result::Result<()
     Ok(())
 }
 
-// The very index stands a second time, behind its record: of two equals the last one wins, and no record stands where it says.
+// The very index stands a second time, behind its record. Of two equals the last one wins, and no record stands where it says.
 fn is_hidden(alloc: Global) -> Result<bool> {
     let mut run = begin_with(alloc, sizes(1), 1)?;
     let mut page = Vec::new(alloc);

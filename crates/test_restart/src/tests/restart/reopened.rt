@@ -21,7 +21,7 @@ pub(crate) struct Reopened {
     pub(crate) disk: MemoryDisk<Global>,
 }
 
-/// What a look-up found: where, and whether a load answers the text of that sequence, which is one of the key.
+/// What a look-up found: its address, and whether a load answers the text of that sequence, which is one of the key.
 #[derive(Clone, Copy, Debug)]
 pub(crate) struct Found {
     pub(crate) address: EntryAddress,

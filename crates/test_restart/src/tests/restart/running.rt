@@ -35,7 +35,7 @@ type TextStep = Step<u64, String, Plain, Global>;
 
 type TextReply = Reply<u64, String, Plain, Global>;
 
-// Keys are 2 to 7, so that a key is even where its put's number is.
+// Keys are 2 to 7, so a key is even if its put's number is even.
 const KEYS: u64 = 6;
 
 /// The key of the n-th put, which is its hash.
@@ -255,7 +255,7 @@ pub(crate) fn flush_puts(alloc: Global, run: &mut Running, count: u32) -> Result
     Ok(end_flush(run, 0) && went_well)
 }
 
-/// Where the index has a key.
+/// Gives where the index has a key.
 pub(crate) fn address_of(run: &mut Running, key: u64) -> Option<EntryAddress> {
     let step = Step::LoadBegin {
         hash: key,

@@ -197,7 +197,7 @@ fn stop_inside(
     Ok(())
 }
 
-// Asks for the next block of a flush, after a stop, and reclaims one where none is clean. Whether the flush goes on.
+// Asks for the next block of a flush after a stop, and reclaims one if none is clean. Says whether the flush goes on.
 fn ask_block(alloc: Global, run: &mut Running, flusher: u32, tally: &mut Tally) -> Result<bool> {
     let blocks = written(run);
     stop(alloc, run, None, &blocks, tally)?;

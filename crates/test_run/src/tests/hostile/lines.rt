@@ -1,4 +1,4 @@
-//! A core with its disk and its log, driven by lines: a step that is refused for memory comes again, but for those that take none.
+//! A core with its disk and its log, driven by lines. A step that is refused for memory comes again, except the steps that take none.
 use crate::tests::hostile::values::{Number, Throttling, number_in};
 use foyer_block_index::manager::BlockId;
 use foyer_block_index::tombstone::Tombstone;
@@ -246,7 +246,7 @@ fn plain_step<A: Allocator>(line: Line<'_>) -> Given<A> {
     }
 }
 
-// The step of a line; None where no access was issued for it.
+// Makes the step of a line. Gives None if no access was issued for it.
 fn step_of<A: Allocator + Clone>(
     driver: &mut Driver<A>,
     heap: &A,
@@ -271,7 +271,7 @@ fn step_of<A: Allocator + Clone>(
     }
 }
 
-// The same, once more where the driver itself has no memory for it.
+// Makes the same, and tries once more if the driver itself has no memory for it.
 fn step_again<A: Allocator + Clone>(
     driver: &mut Driver<A>,
     heap: &A,
@@ -291,7 +291,7 @@ fn takes_none(word: &str) -> bool {
     }
 }
 
-// Applies a step, once more where it is refused for memory that it may take.
+// Applies a step, and once more if it is refused for memory that it may take.
 fn apply<A: Allocator + Clone>(driver: &mut Driver<A>, word: &str, step: Given<A>) -> Answered<A> {
     match driver.core.apply(&mut driver.env, step) {
         Reply::Refused(ErrorKind::Memory, back) if !takes_none(word) => {

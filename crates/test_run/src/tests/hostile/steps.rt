@@ -133,8 +133,8 @@ fn step_in(line: &str) -> &str {
     line.split_once(": ").unwrap_or((line, "")).0
 }
 
-// The script with its answers, as they are, on a heap that may refuse one allocation, where the write of a line is reported as
-// failed; the word of the line that was refused is noted.
+// Gives the script with its answers, as they are, on a heap that may refuse one allocation. The write of a line is reported as failed. The
+// word of the line that was refused is noted.
 fn answered(
     alloc: Global,
     heap: &Refusing<Global>,

@@ -114,8 +114,8 @@ fn rows_of(alloc: Global, rows: &str) -> Result<String> {
     said.text()
 }
 
-// Names, and below each a key that is loaded, what is kept, what the engine answered, and what is given: a kind, a key, a value
-// and an age, `!` where it says that it is a miss, `?` that it is throttled.
+// Names, and below each name a key that is loaded, what is kept, what the engine answered, and what is given. What is given is a kind, a key,
+// a value and an age. `!` stands behind it if it says that it is a miss, `?` if it says that it is throttled.
 const ROWS: &str = "a kept piece goes before the entry
 1: piece 1 7 and entry 1 8 | piece 1 7 young
 without a piece the entry of the key is given

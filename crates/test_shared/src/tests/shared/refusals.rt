@@ -15,8 +15,8 @@ use std::marker::Brand;
 use std::sync::Wait;
 use std::test::Fail;
 
-// Asks whether a hash is indexed, which takes no memory but a note's. Whether that was refused; Config where a refused step
-// left a brief, or one that was made left none.
+// Asks whether a hash is indexed, which takes no memory except a note's. Says whether that was refused. Gives Config if a refused step left a
+// brief, or if one that was made left none.
 fn is_note_refused<L: Kinds>(
     rt: &impl Wait,
     heap: &Refusing<Global>,

@@ -200,7 +200,7 @@ fn each_session_counts_its_replies_by_kind(rt: HostRuntime) -> std::result::Resu
     Ok(())
 }
 
-// Whether a piece that comes where too much is queued is counted as dropped, and neither as queued nor as deleted.
+// Says whether a piece that comes when too much is queued is counted as dropped, and neither as queued nor as deleted.
 fn is_dropped_apart<L: Kinds, R: Wait>(rt: &R, alloc: Global, blanks: Blanks) -> Result<bool>
     requires { AreOf L.name_of L.all blanks × (L.all ≡ 2 ^ 32) }
 {
