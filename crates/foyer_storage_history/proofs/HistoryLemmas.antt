@@ -6,13 +6,15 @@ use Rattle.std.specs.declared.vec.Vec.{Vec}
 use Rattle.foyer_device_page.specs.declared.error.Error.{Error}
 use Rattle.foyer_policy_piece.specs.Referred.{Referred}
 use Rattle.foyer_core_laws.specs.Content.{Meaning, content}
+use Rattle.foyer_core_laws.specs.Settings.{Settings}
 use Rattle.foyer_core_model.specs.Access.{CleanIssued}
 use Rattle.foyer_core_steps.specs.declared.step.Step.{Step}
 use Rattle.foyer_core_steps.specs.declared.step.Step.TheVariants as steps
 use Rattle.foyer_core_told.specs.declared.event.Told.{Told}
 use Rattle.foyer_core_told.specs.Telling.{HasStepped}
 use Rattle.foyer_io_told.specs.ToldAccess.{HasClean}
-use Rattle.foyer_core_threads.specs.Asking.{IsLoadReply}
+use Rattle.foyer_io_told.proofs.ToldAccessLemmas.{known_on}
+use Rattle.foyer_core_threads.specs.Asking.{HasSizes, IsLoadReply}
 use Rattle.foyer_core_threads.specs.Going.{GoesOn, IsMadeAgain}
 use Rattle.foyer_core_threads.specs.Newest.{WasMissedWritten, WasPutLast}
 use Rattle.foyer_core_threads.proofs.AgainLemmas.{tried_on}
@@ -38,7 +40,7 @@ use Rattle.foyer_storage_engine.proofs.HoldingLemmas.{closed_by_made, destroyed_
 use Rattle.std.proofs.Common.{◌≡◌, ◌⊎◌, inl, inr, ℕ, zero, suc, ◌+◌, ◌-◌, ◌<◌, ◌≤◌, ◌==◌, Bool, true, false, true≢false, Some, None, List, [], ◌∷◌, ◌++◌, refl, sym, ap, ◌∙◌, subst, append_assoc, append-nil, arith, Result, Ok, Err, OnOk, slice_get}
 use Rattle.foyer_core_chronicle.specs.declared.View.{View}
 use Rattle.foyer_storage_history.specs.Releasing.{AnswersWait}
-use Rattle.foyer_storage_history.specs.HistoryCalls.{AreCleaned, IsCleared, IsDestroyed, IsEndAnswering, IsNewestAnswer, IsSeenBy, IsWaitedFor, cleared_as, is_nil}
+use Rattle.foyer_storage_history.specs.HistoryCalls.{AreCleaned, IsAllDestroyed, IsCleared, IsDestroyed, IsEndAnswering, IsNewestAnswer, IsSeenBy, IsWaitedFor, cleared_as, is_nil}
 
 pub nil_is : {X : Type 0} (xs : List X) → is_nil xs ≡ true → xs ≡ []
 nil_is [] is = refl
@@ -273,6 +275,18 @@ module _ {K V P D : Type 0} (m : Meaning K V P) (byte_at : D → ℕ → ℕ →
     clear = is.clear;
     clean = is.clean;
     ended = is.ended;
+  }
+
+  -- what is known of the sizes is known to who sees more
+  pub sizes_shown : (v w : View (Told K V P Global D)) (sizes : Settings) → HasSizes m byte_at v.seen sizes → IsSeenBy v w → HasSizes m byte_at w.seen sizes
+  sizes_shown v w sizes knows shown = known_on m byte_at v.seen [] (λ s u. s ≡ sizes) w.seen knows (shown.0, shown.1, λ k some. absurd (let none : 0 < 0 = some in omega arith)) (λ s u x keeps h. h)
+
+  pub all_destroyed_after : (v w u : View (Told K V P Global D)) (answered : Result (Unit {0}) Error) → GoesOn m byte_at v w → IsAllDestroyed m byte_at w u answered → IsAllDestroyed m byte_at v u answered
+  all_destroyed_after v w u answered on is = record {
+    sizes = is.sizes;
+    known = is.known;
+    some = is.some;
+    destroyed = destroyed_after v w u (is.sizes.blocks - 1) answered on is.destroyed;
   }
 
   -- the cleans of the blocks behind one that was cleaned

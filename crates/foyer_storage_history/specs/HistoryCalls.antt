@@ -1,5 +1,5 @@
 -- What a call did in the one history of all threads.
-use Rattle.std.specs.Prelude.{◌≡◌, ◌⊎◌, ℕ, ◌<◌, Bool, true, false, List, [], ◌∷◌, ◌++◌, Option, Some, None, Result, Ok, Err, slice_get}
+use Rattle.std.specs.Prelude.{◌≡◌, ◌⊎◌, ℕ, ◌-◌, ◌<◌, Bool, true, false, List, [], ◌∷◌, ◌++◌, Option, Some, None, Result, Ok, Err, slice_get}
 use Rattle.std.specs.declared.alloc.Global.{Global}
 use Rattle.std.specs.declared.vec.Vec.{Vec}
 use Rattle.foyer_device_page.specs.declared.error.Error.{Error}
@@ -7,6 +7,7 @@ use Rattle.foyer_device_page.specs.declared.error.Error.TheVariants as error
 use Rattle.foyer_policy_piece.specs.Referred.{Referred}
 use Rattle.foyer_core_chronicle.specs.declared.View.{View}
 use Rattle.foyer_core_laws.specs.Content.{Meaning, content}
+use Rattle.foyer_core_laws.specs.Settings.{Settings}
 use Rattle.foyer_core_model.specs.Access.{CleanIssued}
 use Rattle.foyer_io_told.specs.ToldAccess.{HasClean}
 use Rattle.foyer_core_shared.specs.Briefs.{reply_brief}
@@ -20,6 +21,7 @@ use Rattle.foyer_core_steps.specs.declared.step.Step.{Step}
 use Rattle.foyer_core_steps.specs.declared.step.Step.TheVariants as steps
 use Rattle.foyer_core_told.specs.declared.event.Told.{Told}
 use Rattle.foyer_core_told.specs.Telling.{HasStepped}
+use Rattle.foyer_core_threads.specs.Asking.{HasSizes}
 use Rattle.foyer_core_threads.specs.Done.{HasCleaned}
 use Rattle.foyer_core_threads.specs.Going.{IsMadeAgain}
 use Rattle.foyer_core_threads.specs.Newest.{WasMissedWritten, WasPutLast}
@@ -123,6 +125,13 @@ module _ {K V P D : Type 0} (m : Meaning K V P) (byte_at : D → ℕ → ℕ →
     pub clear : IsMadeAgain m byte_at begun cleared steps.DestroyClear replies.Cleared
     pub clean : AreCleaned cleared cleaned last answered
     pub ended : IsSeenBy cleaned after
+
+  -- The same of all blocks: as many as the core of this history was opened with.
+  pub record IsAllDestroyed (mine after : View (Told K V P Global D)) (answered : Result (Unit {0}) Error) : Type 0 where
+    pub sizes : Settings
+    pub known : HasSizes m byte_at after.seen sizes
+    pub some : 0 < sizes.blocks
+    pub destroyed : IsDestroyed mine after (sizes.blocks - 1) answered
 
   -- The core was closed within the call, and each flusher waited for after that.
   pub record IsClosed (mine after : View (Told K V P Global D)) (flushers : ℕ) : Type 0 where

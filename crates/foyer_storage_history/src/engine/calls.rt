@@ -39,7 +39,7 @@ where
     ghost use Rattle.foyer_policy_filter.specs.Verdict.{IsAdmit};
     ghost use Rattle.foyer_storage_engine.specs.Answering.{asked_as, deleted_as};
     ghost use Rattle.foyer_storage_engine.specs.Ending.{HoldsButCloses, HoldsButDestroys};
-    ghost use Rattle.foyer_storage_history.specs.HistoryCalls.{IsAnswerTo, IsClosed, IsDestroyed, IsEnqueued, IsNewestAnswer, IsWaitedFor};
+    ghost use Rattle.foyer_storage_history.specs.HistoryCalls.{IsAllDestroyed, IsAnswerTo, IsClosed, IsEnqueued, IsNewestAnswer, IsWaitedFor};
 
     ghost summary = { λ engine. record { capacity = min (engine.settings.blocks * engine.settings.block_size) (2 ^ 64 - 1); allocated = min (engine.settings.blocks * engine.settings.block_size) (2 ^ 64 - 1); partitions = engine.settings.blocks } };
 
@@ -57,7 +57,7 @@ where
 
     ghost may_close = { λ engine old new answer. HoldsButCloses old.told.session new.told.session × OnOk answer (IsClosed (meaning K.encoding V.encoding K.is_encodable V.is_encodable K.is_decodable V.is_decodable P.age) D.byte_at old.told.witness.me.0 new.told.witness.me.0 engine.settings.flushers) };
 
-    ghost may_destroy = { λ engine old new answer. HoldsButDestroys old.told.session new.told.session × OnOk answer ((blocks : ℕ) × (0 < blocks → IsDestroyed (meaning K.encoding V.encoding K.is_encodable V.is_encodable K.is_decodable V.is_decodable P.age) D.byte_at old.told.witness.me.0 new.told.witness.me.0 (blocks - 1) answer)) };
+    ghost may_destroy = { λ engine old new answer. HoldsButDestroys old.told.session new.told.session × OnOk answer (IsAllDestroyed (meaning K.encoding V.encoding K.is_encodable V.is_encodable K.is_decodable V.is_decodable P.age) D.byte_at old.told.witness.me.0 new.told.witness.me.0 answer) };
 
     fn device(&self) -> DeviceSummary {
         let settings = self.settings;

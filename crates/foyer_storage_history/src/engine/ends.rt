@@ -1,5 +1,5 @@
 //! The calls that wait, close and destroy.
-ghost use Rattle.std.specs.Prelude.{◌≡◌, ◌⊎◌, ◌-◌, ◌<◌, ℕ, IfErr, OnOk, true};
+ghost use Rattle.std.specs.Prelude.{◌≡◌, ◌⊎◌, ◌<◌, ℕ, IfErr, OnOk, true};
 ghost use Rattle.foyer_core_laws.specs.Content.{meaning};
 ghost use Rattle.foyer_core_threads.specs.Going.{GoesOn, IsMadeAgain};
 ghost use Rattle.foyer_device_page.specs.declared.error.Error.TheVariants as error;
@@ -8,7 +8,7 @@ ghost use Rattle.foyer_core_steps.specs.declared.reply.Reply.TheVariants as repl
 ghost use Rattle.foyer_core_steps.specs.declared.step.Step.TheVariants as steps;
 ghost use Rattle.foyer_storage_engine.specs.Answering.{is_draw_error};
 ghost use Rattle.foyer_storage_engine.specs.Ending.{HoldsButCloses, HoldsButDestroys};
-ghost use Rattle.foyer_storage_history.specs.HistoryCalls.{IsClosed, IsDestroyed, IsWaitedFor};
+ghost use Rattle.foyer_storage_history.specs.HistoryCalls.{IsAllDestroyed, IsClosed, IsWaitedFor};
 
 use super::HistoryEngine;
 use crate::begun::begin_destroy;
@@ -144,7 +144,7 @@ where
         rt: &impl Wait,
         session: &mut HistorySession<J, L, K, V, P, D>,
     ) -> Result<()>
-        ensures destroyed { OnOk result ((blocks : ℕ) × (0 < blocks → IsDestroyed (meaning K.encoding V.encoding K.is_encodable V.is_encodable K.is_decodable V.is_decodable P.age) D.byte_at session.old.told.witness.me.0 session.new.told.witness.me.0 (blocks - 1) result)) }
+        ensures destroyed { OnOk result (IsAllDestroyed (meaning K.encoding V.encoding K.is_encodable V.is_encodable K.is_decodable V.is_decodable P.age) D.byte_at session.old.told.witness.me.0 session.new.told.witness.me.0 result) }
         ensures on { GoesOn (meaning K.encoding V.encoding K.is_encodable V.is_encodable K.is_decodable V.is_decodable P.age) D.byte_at session.old.told.witness.me.0 session.new.told.witness.me.0 }
         ensures named { HoldsButDestroys session.old.told.session session.new.told.session }
         ensures parts { session.new.told.session.shares.parts ≡ session.old.told.session.shares.parts }

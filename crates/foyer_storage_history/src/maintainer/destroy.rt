@@ -6,7 +6,7 @@ ghost use Rattle.foyer_core_steps.specs.declared.reply.Reply.TheVariants as repl
 ghost use Rattle.foyer_core_steps.specs.declared.step.Step.TheVariants as steps;
 ghost use Rattle.foyer_core_threads.specs.Going.{GoesOn, IsMadeAgain};
 ghost use Rattle.foyer_io_told.specs.ToldAccess.{HasClean};
-ghost use Rattle.foyer_storage_history.specs.HistoryCalls.{AreCleaned, IsCleared, IsDestroyed, cleared_as, destroyed_as};
+ghost use Rattle.foyer_storage_history.specs.HistoryCalls.{AreCleaned, IsAllDestroyed, IsCleared, cleared_as, destroyed_as};
 
 use super::{Flushed, HistoryCore, Maintainer};
 use crate::begun::DestroyBegun;
@@ -190,6 +190,7 @@ where
         requires issued { (block : ℕ) → block < self.old.settings.blocks → HasClean (meaning K.encoding V.encoding K.is_encodable V.is_encodable K.is_decodable V.is_decodable P.age) D.byte_at self.old.told.witness.me.0.seen block CleanIssued }
         ensures on { GoesOn (meaning K.encoding V.encoding K.is_encodable V.is_encodable K.is_decodable V.is_decodable P.age) D.byte_at self.old.told.witness.me.0 self.new.told.witness.me.0 }
         ensures cleaned { 0 < self.old.settings.blocks → AreCleaned (meaning K.encoding V.encoding K.is_encodable V.is_encodable K.is_decodable V.is_decodable P.age) D.byte_at self.old.told.witness.me.0 self.new.told.witness.me.0 (self.old.settings.blocks - 1) result }
+        ensures some { OnOk result (0 < self.old.settings.blocks) }
         ensures settings { self.new.settings ≡ self.old.settings }
     {
         let mut ended = Err(Error::Unsupported);
@@ -217,7 +218,7 @@ where
         C: StorageFilterCondition,
         requires mine { (caller.old.witness.table_id ≡ J.table) × (caller.old.witness.me.1 ≡ []) }
         ensures mine { (caller.new.witness.table_id ≡ J.table) × (caller.new.witness.me.1 ≡ []) × (caller.new.session ≡ caller.old.session) }
-        ensures destroyed { OnOk result (0 < self.old.settings.blocks → IsDestroyed (meaning K.encoding V.encoding K.is_encodable V.is_encodable K.is_decodable V.is_decodable P.age) D.byte_at caller.old.witness.me.0 caller.new.witness.me.0 (self.old.settings.blocks - 1) result) }
+        ensures destroyed { OnOk result (IsAllDestroyed (meaning K.encoding V.encoding K.is_encodable V.is_encodable K.is_decodable V.is_decodable P.age) D.byte_at caller.old.witness.me.0 caller.new.witness.me.0 result) }
         ensures on { GoesOn (meaning K.encoding V.encoding K.is_encodable V.is_encodable K.is_decodable V.is_decodable P.age) D.byte_at caller.old.witness.me.0 caller.new.witness.me.0 }
         ensures settings { self.new.settings ≡ self.old.settings }
     {
