@@ -1,5 +1,5 @@
 //! Limits of reads and writes, over a clock that moves: `at` sets it, in milliseconds.
-use crate::tests::rows::rows_of;
+use crate::tests::rows::wrong_rows;
 use std::test::Fail;
 
 // A quota is 0 when a store is built, falls by what is read or written, and rises by its limit in each second, to a second's at most; who
@@ -68,14 +68,14 @@ reads 1, per 5000, opens none < fill 1 5000, wait, get 1, at 1999, get 1, at 200
 
 #[test]
 fn writes_are_limited_so(rt: HostRuntime) -> std::result::Result<(), Fail> {
-    let answers = rows_of(rt, rt.alloc(), WRITES)?;
-    assert!(rt; answers.as_str() == WRITES, "{answers}");
+    let wrong = wrong_rows(rt, rt.alloc(), WRITES)?;
+    assert!(rt; wrong.is_empty(), "{wrong}");
     Ok(())
 }
 
 #[test]
 fn reads_are_limited_so(rt: HostRuntime) -> std::result::Result<(), Fail> {
-    let answers = rows_of(rt, rt.alloc(), READS)?;
-    assert!(rt; answers.as_str() == READS, "{answers}");
+    let wrong = wrong_rows(rt, rt.alloc(), READS)?;
+    assert!(rt; wrong.is_empty(), "{wrong}");
     Ok(())
 }
