@@ -1,3 +1,4 @@
+pub mod ClassLemmas
 pub mod HistoryJoins
 pub mod ToldOpenings
 pub mod PlainSteps

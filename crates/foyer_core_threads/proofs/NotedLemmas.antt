@@ -73,6 +73,7 @@ module _ {K V P A : Type 0} where
     returned = λ ok f. none_added (slice_index old.returned f) ∙ ap (λ n. slice_index old.returned f + n) (sym (returned f));
     passed = λ ok f. sym (passed f (slice_index old.passed f));
     left = λ ok f. inl refl;
+    classes = refl;
     last = λ ok r. omega arith;
     placed = λ ok hash sequence is_hash is_queued. absurd (never hash sequence is_hash is_queued);
   }
@@ -148,6 +149,7 @@ module _ {K V P A D : Type 0} where
       → HasNoted (moving_of step) answer old new → new.is_lost ≡ false → AreOf new (log ++ e ∷ [])
   step_on old new log e step answer core are is noted ok =
       let F = length old.queued in
+      let same_class : (hash : ℕ) → class_of new hash ≡ class_of old hash = (λ hash. ap (λ n. hash % n) noted.classes) in
       let returned_new : (f : ℕ) → slice_index new.returned f ≡ returned_in f (log ++ e ∷ []) = (λ f.
       let had : slice_index old.returned f ≡ returned_in f log = are.returned f in
       let now : slice_index new.returned f ≡ slice_index old.returned f + returned_by f (moving_of step) answer = noted.returned ok f in
@@ -167,17 +169,18 @@ module _ {K V P A D : Type 0} where
             subst (λ n. slice_index new.queued f ≡ queued_in n f (log ++ e ∷ [])) (sym noted.flushers) all;
         returned = returned_new;
         passed = passed_new;
-        up_to = λ hash. subst (λ n. AreUpTo n hash (slice_index new.last (class_of hash)) (log ++ e ∷ [])) (sym noted.flushers) (λ before behind x sequence same queuing.
-            let lifts : slice_index old.last (class_of hash) ≤ slice_index new.last (class_of hash) = noted.last ok (class_of hash) in
+        up_to = λ hash. subst (λ n. AreUpTo n hash (slice_index new.last (class_of new hash)) (log ++ e ∷ [])) (sym noted.flushers) (λ before behind x sequence same queuing.
+            let lifts : slice_index old.last (class_of old hash) ≤ slice_index new.last (class_of new hash) =
+            subst (λ r. slice_index old.last (class_of old hash) ≤ slice_index new.last r) (sym (same_class hash)) (noted.last ok (class_of old hash)) in
             elim (append_split log (e ∷ []) before behind x same) [
-              | inl (mid, split, rest) ↦ (let low : suc (queued_in F (hash % F) before) ≤ slice_index old.last (class_of hash) = are.up_to hash before mid x sequence split queuing in omega arith)
+              | inl (mid, split, rest) ↦ (let low : suc (queued_in F (hash % F) before) ≤ slice_index old.last (class_of old hash) = are.up_to hash before mid x sequence split queuing in omega arith)
               | inr (mid, split, rest) ↦ (
                   let only = only_one e x mid behind rest in
                   let here : before ≡ log = split ∙ ap (λ l. log ++ l) only.0 ∙ append-nil log in
                   let of = queuing_as hash sequence e step answer core is (subst (IsQueuing hash sequence) (sym only.1) queuing) in
                   let put = noted.placed ok hash sequence of.0 of.1 in
                   let low : hash % F < F = put.0 in
-                  let top : slice_index new.queued (hash % F) ≤ slice_index new.last (class_of hash) = put.1 in
+                  let top : slice_index new.queued (hash % F) ≤ slice_index new.last (class_of new hash) = put.1 in
                   let had : slice_index old.queued (hash % F) ≡ queued_in F (hash % F) log = are.queued (hash % F) low in
                   let now : slice_index new.queued (hash % F) ≡ slice_index old.queued (hash % F) + queued_by F (hash % F) (moving_of step) answer = noted.queued ok (hash % F) low in
                   let one : queued_by F (hash % F) (moving_of step) answer ≡ 1 = one_queued F hash sequence (moving_of step) answer of.0 of.1 in
@@ -246,7 +249,7 @@ module _ {K V P A D : Type 0} (m : Meaning K V P) (byte_at : D → ℕ → ℕ �
       let state : IsStateOf m s core u.core = stands.1 s sound u run in
       let flushers : length noted.queued ≡ s.flushers = leave.flushers_are ∙ ap (λ (x : Settings). x.flushers) state.sizes in
       let f = hash % s.flushers in
-      let place = slice_index noted.last (class_of hash) in
+      let place = slice_index noted.last (class_of noted hash) in
       let below : place ≤ slice_index noted.left f = subst (λ n. place ≤ slice_index noted.left (hash % n)) (ap (λ (x : Settings). x.flushers) state.sizes) leave.left in
       left_is_written_lem m s sound byte_at hash log u run (
         place,
@@ -257,7 +260,7 @@ module _ {K V P A D : Type 0} (m : Meaning K V P) (byte_at : D → ℕ → ℕ �
         ],
       )
 
-  -- what had left its flusher under the lock is written where a step of that hold is told
+  -- what had left its flusher under the lock is written when a step of that hold is told
   pub looked_written : (noted : Noted) (hash : ℕ) (own mine owns after : View (Told K V P A D)) (step : Step K V P A) (answer : Reply K V P A) (old new : Core K V P A) (n : ℕ) → AreNoted noted own.seen → StandsAt m byte_at own.seen old
       → HasSeenLeave noted old.settings.flushers hash → HasAdded own owns step answer new → owns.seen ≡ after.seen → (stepped : HasStepped m byte_at mine after step answer n) → IsAllWritten m byte_at hash stepped.gone.log
   looked_written noted hash own mine owns after step answer old new n are stands leave added both stepped =

@@ -22,7 +22,7 @@ use Rattle.foyer_core_told.specs.Telling.{HasGoneOn, HasStepped}
 use Rattle.foyer_core_threads.specs.Going.{IsMadeAgain}
 use Rattle.foyer_io_told.specs.ToldAccess.{IsCleanOf, IsScanOf, IsWriteOf, HasClean, HasScan, HasWritten}
 
--- The step is noted in its session; or notes are kept, and no memory was found for this one: then it was handed back.
+-- The step is noted in its session. Or notes are kept, and no memory was found for this note: then the step was returned.
 abbrev pub IsNoted : {K V P A : Type 0} → (keeps : Bool) → (old new : SessionState) → Step K V P A → Reply K V P A → Type 0
 IsNoted keeps old new step answer = IsNotedIn old new step answer ⊎ ((keeps ≡ true) × (answer ≡ replies.Refused kind.Memory step) × (new ≡ old))
 

@@ -29,7 +29,8 @@ module _ {K V P A D : Type 0} (m : Meaning K V P) (byte_at : D → ℕ → ℕ �
         → (v : World Content) × IsRun m s sound byte_at moment.there v × ((n : ℕ) × (newest h v.history ≡ Some (Put h n (Holds c))))
 
   -- At such a moment, in every run that is told, the newest event of this hash was no put of a record; or the reclaim of its block had
-  -- begun before and nothing of the hash was committed since; or that, or a destroy, began between that moment and the return.
+  -- begun before and nothing of the hash was committed since; or that reclaim began, or a destroy cleared the index, between that moment
+  -- and the return.
   pub record WasMissed (before after : List (Told K V P A D)) (h : ℕ) : Type 0 where
     pub moment : Moment before after
     pub caused : (s : Settings) (sound : AreValid s) (u : World Content) → IsRun m s sound byte_at after u

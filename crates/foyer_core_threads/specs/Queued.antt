@@ -7,14 +7,6 @@ use Rattle.foyer_core_told.specs.declared.queued.Moving.{Moving}
 use Rattle.foyer_core_told.specs.declared.queued.Moving.TheVariants as moving
 use Rattle.foyer_core_told.specs.ToldQueued.{AreUpTo, HasLeft, passed_by, passed_in, queued_by, queued_in, returned_by, returned_in}
 
--- so many classes of hashes there are
-abbrev pub queue_classes : ℕ
-queue_classes = 65536
-
--- the class of a hash: its remainder
-abbrev pub class_of : ℕ → ℕ
-class_of hash = hash % queue_classes
-
 -- By flusher: how many pieces were queued and how many left it, how many of these from the front of its queue since its last batch began, and up to
 -- which place they had left it when a batch ended. By class: at least the place of the last piece that was queued. If they are lost
 -- nothing is known.
@@ -25,6 +17,17 @@ pub record Noted : Type 0 where
   pub passed : List ℕ
   pub left : List ℕ
   pub is_lost : Bool
+
+-- the class of a hash: its remainder by the number of classes
+abbrev pub class_of : Noted → ℕ → ℕ
+class_of noted hash = hash % length noted.last
+
+-- The number of classes is a multiple of the number of flushers. So all hashes of a class belong to one flusher. The place that is kept for
+-- the class is at most the number of pieces that were queued at this flusher.
+pub record AreClassed (last queued : List ℕ) : Type 0 where
+  pub some : 0 < length last
+  pub whole : 0 < length queued → length last % length queued ≡ 0
+  pub below : (r : ℕ) → slice_index last r ≤ slice_index queued (r % length queued)
 
 -- nothing was queued
 pub record AreNone (noted : Noted) : Type 0 where
@@ -66,16 +69,17 @@ pub record HasNoted {K V P A : Type 0} (done : Moving) (answer : Reply K V P A) 
   pub passed : new.is_lost ≡ false → (f : ℕ) → slice_index new.passed f ≡ passed_by f done answer (slice_index old.passed f)
   pub left : new.is_lost ≡ false → (f : ℕ) → (slice_index new.left f ≡ slice_index old.left f)
       ⊎ (EndsBatch f done answer × (slice_index new.left f + slice_index new.passed f ≤ slice_index new.returned f))
+  pub classes : length new.last ≡ length old.last
   pub last : new.is_lost ≡ false → (r : ℕ) → slice_index old.last r ≤ slice_index new.last r
   pub placed : new.is_lost ≡ false → (hash sequence : ℕ) → done ≡ moving.Queues hash → answer ≡ replies.Queued sequence
-      → (hash % length old.queued < length old.queued) × (slice_index new.queued (hash % length old.queued) ≤ slice_index new.last (class_of hash))
+      → (hash % length old.queued < length old.queued) × (slice_index new.queued (hash % length old.queued) ≤ slice_index new.last (class_of new hash))
 
 -- They are those of the history, unless they are lost.
 pub record AreOf {K V P A D : Type 0} (noted : Noted) (log : List (Told K V P A D)) : Type 0 where
   pub queued : (f : ℕ) → f < length noted.queued → slice_index noted.queued f ≡ queued_in (length noted.queued) f log
   pub returned : (f : ℕ) → slice_index noted.returned f ≡ returned_in f log
   pub passed : (f : ℕ) → slice_index noted.passed f ≡ passed_in f log 0
-  pub up_to : (hash : ℕ) → AreUpTo (length noted.queued) hash (slice_index noted.last (class_of hash)) log
+  pub up_to : (hash : ℕ) → AreUpTo (length noted.queued) hash (slice_index noted.last (class_of noted hash)) log
   pub left : (f : ℕ) → (slice_index noted.left f ≡ 0) ⊎ HasLeft f (slice_index noted.left f) log
 
 abbrev pub AreNoted : {K V P A D : Type 0} → Noted → List (Told K V P A D) → Type 0
@@ -85,4 +89,4 @@ AreNoted noted log = noted.is_lost ≡ false → AreOf noted log
 pub record HasSeenLeave (noted : Noted) (flushers hash : ℕ) : Type 0 where
   pub kept : noted.is_lost ≡ false
   pub flushers_are : length noted.queued ≡ flushers
-  pub left : slice_index noted.last (class_of hash) ≤ slice_index noted.left (hash % flushers)
+  pub left : slice_index noted.last (class_of noted hash) ≤ slice_index noted.left (hash % flushers)

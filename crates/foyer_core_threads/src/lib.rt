@@ -1,5 +1,5 @@
-//! A core and its disk as threads share them, each behind a lock. Each step and each access is told in the one history of all threads, and
-//! a load is proved newest in it.
+//! A core and its disk as threads share them, each behind a lock. Each step and each access is recorded in the one history of all threads.
+//! Each entry that a load answers is proved to have been the newest of its hash in this history, at a moment of the call.
 #![tactic(auto)]
 
 pub mod locked;

@@ -40,7 +40,7 @@ use std::alloc::Allocator;
 use std::marker::{Model, PhantomData};
 use std::snapshot::Snapshot;
 
-/// A noted core, with the witness that tells its steps. It lies behind a lock.
+/// A noted core, with the witness that adds its steps to the history. It lies behind a lock.
 pub struct ToldCore<J, L, K, V, P, A, E, C, N, D>
 where
     J: HistoryName,
@@ -132,7 +132,7 @@ where
     N: Noting,
     D: Disk,
 {
-    /// The core of a history that was told of its opening alone, with the witness that has the core's right, and places at which nothing was queued.
+    /// Makes the core of a history. The witness must have the core's right, and must have seen the core's opening and nothing else.
     pub fn new(
         locked: Locked<L, K, V, P, A, E, C, N>,
         witness: ToldWitness<K, V, P, A, D>,
@@ -152,10 +152,10 @@ where
         }
     }
 
-    /// Applies a step as `Locked::step` does, and tells it: the history goes on by exactly this step with this reply, after all that
-    /// the session had seen. The session brings the right that the step takes, and what shows that the outcome that it brings has come. Beside
-    /// the reply is the number of the next ticket before the step: that of the ticket that it issues, if it does, whose right the session
-    /// has then.
+    /// Applies a step as `Locked::step` does, and adds exactly this step with this reply to the history, after all that the session had
+    /// seen. The session must have the right that the step takes. If the step reports an access, what the session has seen must show that
+    /// the access had this outcome. Beside the reply, gives how many tickets were issued before the step. If the step issues a ticket, that
+    /// is the ticket's number, and the session then has the ticket's right.
     pub fn step(
         &mut self,
         history: &ToldHistory<K, V, P, A, D>,
@@ -195,7 +195,8 @@ where
         Ok((reply, number))
     }
 
-    /// Brings what was read for a ticket and judged, as `Locked::end_judged` does, and tells it as `step` tells a `LoadEnd`.
+    /// Reports what was read for a ticket and judged, as `Locked::end_judged` does, and adds it to the history as `step` adds a `LoadEnd`.
+    /// `said` must be a snapshot of this `LoadEnd`.
     pub fn end_judged(
         &mut self,
         history: &ToldHistory<K, V, P, A, D>,
@@ -236,9 +237,9 @@ where
         Ok((reply, spare))
     }
 
-    /// Whether all pieces of a hash that were queued have left their flusher. The session has seen the whole history then, as it is under the core's
-    /// lock. No event is added to it. If they have, each was written, or something newer of its hash was, unless a batch failed since or
-    /// a destroy cleared the index.
+    /// Whether it is known that all queued pieces of a hash have left their flusher. The session has then seen the whole history, as it is
+    /// under the core's lock. No event is added to it. If true, each piece was written or deleted, or something newer of the hash was. The
+    /// exceptions: a batch failed since, or a destroy cleared the index.
     pub fn sees_written(
         &mut self,
         history: &ToldHistory<K, V, P, A, D>,
@@ -260,9 +261,10 @@ where
         self.places.have_left(hash, flushers).is_some()
     }
 
-    /// Looks a hash up as `step` does, if all pieces of it that were queued have left their flusher: just before, each was written, or something
-    /// newer of its hash was, unless a batch failed since or a destroy cleared the index. Else `None`, and no step is made. If notes are kept and
-    /// memory for this one is refused, the reply is `Refused(Memory, step)`.
+    /// Looks a hash up as `step` does, if it is known that all queued pieces of the hash have left their flusher. Just before the look-up,
+    /// each piece was written or deleted, or something newer of the hash was. The exceptions: a batch failed since, or a destroy cleared
+    /// the index. Else gives `None`, and makes no step. If notes are kept and memory for this one is refused, the reply is `Refused(Memory,
+    /// step)`, and nothing is noted or added to the history.
     pub fn look_up(
         &mut self,
         history: &ToldHistory<K, V, P, A, D>,

@@ -1,4 +1,4 @@
-//! How many pieces were queued at each flusher and left it, and which of a class of hashes was the last.
+//! Counts of the pieces that were queued at each flusher and that left it, and the last place for each class of hashes.
 ghost use Rattle.std.specs.Prelude.{◌≡◌, ◌⊎◌, ◌+◌, ◌%◌, ◌^◌, ◌<◌, ◌≤◌, ℕ, ◌==◌, if◌then◌else◌, IfErr, IfOk, IfSome, is_some, false, length, slice_index, true, vec_len};
 ghost use Rattle.foyer_core_threads.specs.Queued as noted;
 ghost use Rattle.foyer_core_threads.specs.Queued.{AreNone, FitsEnded, FitsPassed, FitsQueued, HasNoted, HasSeenLeave};
@@ -10,11 +10,12 @@ use foyer_device_page::error::Result;
 use std::alloc::Allocator;
 use std::marker::Model;
 
-// So many classes of hashes there are.
-const CLASSES: u64 = 65_536;
+// About how many classes of hashes there are.
+const CLASSES: usize = 65_536;
 
-/// Of each flusher, how many pieces were queued and left it; of each class of hashes, the place of the last piece that was queued. The class of a
-/// hash is its remainder by 65,536.
+/// For each flusher, how many pieces were queued at it, and how many left it. For each class of hashes, a place not before that of the last
+/// piece that was queued. The class of a hash is its remainder by the number of classes. This number is a multiple of the number of flushers, so
+/// all hashes of a class belong to one flusher.
 pub struct QueuedPlaces<A: Allocator> {
     // By class, at least the place of the last piece that was queued, among those of its flusher, from 1 on.
     last: Vec<u64, A>,
@@ -26,7 +27,7 @@ pub struct QueuedPlaces<A: Allocator> {
     passed: Vec<u64, A>,
     // By flusher, up to which place all had left it when a batch ended.
     left: Vec<u64, A>,
-    // Whether a number came that has no 64 bits, or a flusher that isn't there. Nothing is known from then on.
+    // Whether a count passed 64 bits, or the flusher of a step wasn't there. Nothing is known from then on.
     is_lost: bool,
 }
 
@@ -46,13 +47,13 @@ impl<A: Allocator> Drop for QueuedPlaces<A> {
 
 impl<A: Allocator> Model for QueuedPlaces<A> {
     ghost use Rattle.std.specs.Prelude.{◌≡◌, length};
-    ghost use Rattle.foyer_core_threads.specs.Queued.{Noted, queue_classes};
+    ghost use Rattle.foyer_core_threads.specs.Queued.{AreClassed, Noted};
 
     ghost Value = { Noted };
 
     ghost view = { λ n. record { last = n.last.items; queued = n.queued.items; returned = n.returned.items; passed = n.passed.items; left = n.left.items; is_lost = n.is_lost } };
 
-    ghost invariant = { λ n. length n.last.items ≡ queue_classes };
+    ghost invariant = { λ n. AreClassed n.last.items n.queued.items };
 }
 
 /// All pieces of a hash have left their flusher.
@@ -73,11 +74,11 @@ impl<A: Allocator> Drop for NoneQueued<A> {
 }
 
 impl<A: Allocator + Clone> NoneQueued<A> {
-    /// For so many flushers. `Memory`.
+    /// Gives places for this many flushers. Errors: `Memory` alone.
     pub fn new(alloc: &A, flushers: u32) -> Result<NoneQueued<A>>
         ensures refused { IfErr result (λ e. e ≡ Memory) }
     {
-        let last = zeros(alloc.clone()?, CLASSES as usize)?;
+        let last = zeros(alloc.clone()?, classes_for(flushers as usize))?;
         let queued = zeros(alloc.clone()?, flushers as usize)?;
         let returned = zeros(alloc.clone()?, flushers as usize)?;
         let passed = zeros(alloc.clone()?, flushers as usize)?;
@@ -104,14 +105,22 @@ impl<A: Allocator> NoneQueued<A> {
     }
 }
 
-// The class of a hash.
-fn class_of(hash: u64) -> usize
-    ensures { result ≡ noted.class_of hash }
+// How many classes of hashes there are for this many flushers: a multiple of the number of flushers.
+#[tactic(auto, using(crate::proofs::ClassLemmas::whole_part))]
+fn classes_for(flushers: usize) -> usize
+    ensures some { 0 < result }
+    ensures whole { 0 < flushers → result % flushers ≡ 0 }
 {
-    (hash % CLASSES) as usize
+    if flushers == 0 {
+        return CLASSES;
+    }
+    if flushers >= CLASSES {
+        return flushers;
+    }
+    CLASSES - CLASSES % flushers
 }
 
-// So many zeros.
+// Gives this many zeros.
 fn zeros<A: Allocator>(alloc: A, count: usize) -> Result<Vec<u64, A>>
     ensures zeros { IfOk result (λ v. (r : ℕ) → slice_index v.items r ≡ 0) }
     ensures len { IfOk result (λ v. vec_len v ≡ count) }
@@ -121,10 +130,11 @@ fn zeros<A: Allocator>(alloc: A, count: usize) -> Result<Vec<u64, A>>
 }
 
 // Adds to a number, if it is there and the sum has 64 bits.
-fn raise(numbers: &mut [u64], at: usize, by: usize) -> bool
-    ensures len { length numbers.new ≡ length numbers.old }
-    ensures fits { at < length numbers.old → slice_index numbers.old at + by < 2 ^ 64 → result ≡ true }
-    ensures raised { result ≡ true → (r : ℕ) → slice_index numbers.new r ≡ slice_index numbers.old r + (if at == r then by else 0) }
+fn raise<A: Allocator>(numbers: &mut Vec<u64, A>, at: usize, by: usize) -> bool
+    ensures len { length numbers.new.items ≡ length numbers.old.items }
+    ensures grown { (r : ℕ) → slice_index numbers.old.items r ≤ slice_index numbers.new.items r }
+    ensures fits { at < length numbers.old.items → slice_index numbers.old.items at + by < 2 ^ 64 → result ≡ true }
+    ensures raised { result ≡ true → (r : ℕ) → slice_index numbers.new.items r ≡ slice_index numbers.old.items r + (if at == r then by else 0) }
 {
     if at >= numbers.len() {
         return false;
@@ -139,10 +149,10 @@ fn raise(numbers: &mut [u64], at: usize, by: usize) -> bool
 }
 
 // Puts a number, if it is there.
-fn put(numbers: &mut [u64], at: usize, number: u64) -> bool
-    ensures len { length numbers.new ≡ length numbers.old }
-    ensures fits { at < length numbers.old → result ≡ true }
-    ensures put { result ≡ true → (r : ℕ) → slice_index numbers.new r ≡ (if at == r then number else slice_index numbers.old r) }
+fn put<A: Allocator>(numbers: &mut Vec<u64, A>, at: usize, number: u64) -> bool
+    ensures len { length numbers.new.items ≡ length numbers.old.items }
+    ensures fits { at < length numbers.old.items → result ≡ true }
+    ensures put { result ≡ true → (r : ℕ) → slice_index numbers.new.items r ≡ (if at == r then number else slice_index numbers.old.items r) }
 {
     if at >= numbers.len() {
         return false;
@@ -152,10 +162,11 @@ fn put(numbers: &mut [u64], at: usize, number: u64) -> bool
 }
 
 // Makes a number at least as great as another one.
-fn lift(numbers: &mut [u64], at: usize, number: u64)
-    ensures len { length numbers.new ≡ length numbers.old }
-    ensures lifted { (r : ℕ) → slice_index numbers.old r ≤ slice_index numbers.new r }
-    ensures reached { at < length numbers.old → number ≤ slice_index numbers.new at }
+fn lift<A: Allocator>(numbers: &mut Vec<u64, A>, at: usize, number: u64)
+    ensures len { length numbers.new.items ≡ length numbers.old.items }
+    ensures lifted { (r : ℕ) → slice_index numbers.old.items r ≤ slice_index numbers.new.items r }
+    ensures reached { at < length numbers.old.items → number ≤ slice_index numbers.new.items at }
+    ensures bound { (r : ℕ) → (slice_index numbers.new.items r ≡ slice_index numbers.old.items r) ⊎ ((at ≡ r) × (slice_index numbers.new.items r ≡ number)) }
 {
     if at < numbers.len() && numbers[at] < number {
         numbers[at] = number;
@@ -173,7 +184,15 @@ fn number_at(numbers: &[u64], at: usize) -> u64
 }
 
 impl<A: Allocator> QueuedPlaces<A> {
+    // The class of a hash.
+    fn class_of(&self, hash: u64) -> usize
+        ensures { result ≡ noted.class_of self.now hash }
+    {
+        (hash % self.last.len() as u64) as usize
+    }
+
     // A piece of this hash was queued.
+    #[tactic(auto, using(crate::proofs::ClassLemmas::added))]
     fn add(&mut self, hash: u64)
         ensures kept { self.new.is_lost ≡ false → self.old.is_lost ≡ false }
         ensures same { (self.new.returned ≡ self.old.returned) × (self.new.passed ≡ self.old.passed) × (self.new.left ≡ self.old.left) }
@@ -182,19 +201,21 @@ impl<A: Allocator> QueuedPlaces<A> {
         ensures keeps { self.old.is_lost ≡ false → FitsQueued hash self.old → self.new.is_lost ≡ false }
         ensures queued { self.new.is_lost ≡ false → (r : ℕ) → slice_index self.new.queued r ≡ slice_index self.old.queued r + (if hash % length self.old.queued == r then 1 else 0) }
         ensures last { (r : ℕ) → slice_index self.old.last r ≤ slice_index self.new.last r }
-        ensures placed { slice_index self.new.queued (hash % length self.old.queued) ≤ slice_index self.new.last (noted.class_of hash) }
+        ensures classes { length self.new.last ≡ length self.old.last }
+        ensures placed { slice_index self.new.queued (hash % length self.old.queued) ≤ slice_index self.new.last (noted.class_of self.new hash) }
     {
         let flushers = self.queued.len() as u64;
         if flushers == 0 {
             self.is_lost = true;
             return;
         }
+        let class = self.class_of(hash);
         let flusher = (hash % flushers) as usize;
         if !raise(&mut self.queued, flusher, 1) {
             self.is_lost = true;
         }
         let place = number_at(&self.queued, flusher);
-        lift(&mut self.last, class_of(hash), place);
+        lift(&mut self.last, class, place);
     }
 
     // A piece left this flusher from the front of its queue.
@@ -276,16 +297,19 @@ impl<A: Allocator> QueuedPlaces<A> {
         }
     }
 
-    /// Whether all pieces of a hash that were queued have left their flusher, of so many, as far as is known.
+    /// Gives `Left` if it is known that all queued pieces of a hash have left their flusher. `flushers` is how many flushers there are.
+    #[tactic(auto, using(crate::proofs::ClassLemmas::idle_left))]
     pub(crate) fn have_left(&self, hash: u64, flushers: u32) -> Option<Left>
         ensures left { IfSome result (λ _. HasSeenLeave self.now flushers hash) }
         ensures found { HasSeenLeave self.now flushers hash → 0 < flushers → is_some result ≡ true }
+        ensures idle { self.now.is_lost ≡ false → length self.now.queued ≡ flushers → 0 < flushers
+            → slice_index self.now.queued (hash % flushers) ≤ slice_index self.now.left (hash % flushers) → is_some result ≡ true }
     {
         if self.is_lost || flushers == 0 || self.queued.len() != flushers as usize {
             return None;
         }
         let flusher = (hash % flushers as u64) as usize;
-        if number_at(&self.last, class_of(hash)) <= number_at(&self.left, flusher) {
+        if number_at(&self.last, self.class_of(hash)) <= number_at(&self.left, flusher) {
             Some(Left)
         } else {
             None

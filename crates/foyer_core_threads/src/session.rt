@@ -56,7 +56,8 @@ where
     A: Allocator,
     D: Disk,
 {
-    /// Another session of so many parts, which has seen what this one has. It has no right.
+    /// Splits off a session with this many parts, at least one and fewer than it has. The new session has seen what this one has seen, and
+    /// has no right.
     pub fn split(
         &mut self,
         history: &ToldHistory<K, V, P, A, D>,

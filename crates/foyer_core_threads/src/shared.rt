@@ -92,7 +92,7 @@ where
     }
 }
 
-// What the end of a load brings, or another step.
+// Gives the parts of a `LoadEnd`, or the step if it is another one.
 fn parts_of<K: Drop, V: Drop, P: Drop, A: Allocator>(
     step: Step<K, V, P, A>,
 ) -> std::result::Result<(Ticket, Result<Vec<u8, A>>), Step<K, V, P, A>>
@@ -104,7 +104,7 @@ fn parts_of<K: Drop, V: Drop, P: Drop, A: Allocator>(
     }
 }
 
-// The end of a load as a step, and what it is made of again.
+// Gives a snapshot of the `LoadEnd` with these parts, and the parts.
 fn end_step<K: Drop, V: Drop, P: Drop, A: Allocator>(
     ticket: Ticket,
     outcome: Result<Vec<u8, A>>,
@@ -136,9 +136,9 @@ where
     N: Noting,
     D: Disk,
 {
-    /// A core that was opened over this disk, whose bytes are known, and the session that has all parts and all rights of flushers and
-    /// blocks. Their opening is the first event of the history, which is new; `spare` is a buffer for the first read, and `none` has places for the
-    /// core's flushers (for another number of them no load would be answered by `load_written`).
+    /// Shares a core that was just opened over this disk, whose bytes must be known. The opening is the first event of the history, which
+    /// must be new and have this first witness. Gives the session with all rights of flushers and blocks. `spare` is a buffer for the first
+    /// read. `none` has places for the core's flushers: with another number of them, `load_written` would answer no load.
     pub fn new(
         history: ToldHistory<K, V, P, A, D>,
         witness: ToldWitness<K, V, P, A, D>,
@@ -182,10 +182,11 @@ where
         &self.history
     }
 
-    /// One step, under the core's lock; a filter that is asked is shown `io`. The history goes on by exactly this step with this reply, after
-    /// all that the session had seen. The session brings the right that the step takes, and what shows that the outcome that it brings has
-    /// come. If notes are kept and memory for this one is refused, the reply is `Refused(Memory, step)`, and nothing is noted or added to the history.
-    /// Beside the reply is the number of the next ticket before the step.
+    /// Makes one step, under the core's lock. A filter that is asked is passed `io`. This adds exactly this step with this reply to the
+    /// history, after all that the session had seen. The session must have the right that the step takes. If the step reports an access,
+    /// what the session has seen must show that the access had this outcome. Beside the reply, gives how many tickets were issued before
+    /// the step: the number of the ticket that the step issues, if it does. There is one exception: if notes are kept and memory for this
+    /// note is refused, the reply is `Refused(Memory, step)`. Then the number is 0, and nothing is noted or added to the history.
     pub fn step(
         &self,
         rt: &impl Wait,
@@ -213,14 +214,14 @@ where
         }
     }
 
-    /// Whether so much is queued just then that another piece isn't taken. No clause says it: who is answered so may only look, and decide.
+    /// Whether so much is queued at this moment that another piece isn't taken. No contract says so: the answer is only a hint.
     pub fn is_full(&self, rt: &impl Wait) -> bool {
         lock_spinning(&self.core, rt).is_full()
     }
 
-    /// Whether all pieces of a hash that were queued have left their flusher at a moment of this call, under the core's lock. The session has seen the
-    /// history until then. If they have, each was written, or something newer of its hash was, unless a batch failed since or a destroy cleared
-    /// the index.
+    /// Whether it is known, at a moment of this call under the core's lock, that all queued pieces of a hash have left their flusher. The
+    /// session has then seen the history until this moment. If true, each piece was written or deleted, or something newer of the hash was.
+    /// The exceptions: a batch failed since, or a destroy cleared the index.
     pub fn sees_written(
         &self,
         rt: &impl Wait,
@@ -236,7 +237,7 @@ where
         lock_spinning(&self.core, rt).sees_written(&self.history, session, hash)
     }
 
-    /// One step that takes no right and brings no outcome of an access, as `step` does.
+    /// Makes one step as `step` does. Requires that the step takes no right and reports no access.
     pub fn ask(
         &self,
         rt: &impl Wait,
@@ -260,8 +261,9 @@ where
         self.step(rt, session, io, step)
     }
 
-    /// Brings what was read for a ticket, as `step` does with a `LoadEnd`, and gives the buffer of the read back beside the reply. What was
-    /// read is judged before the lock is taken: a pair takes its memory from this allocator.
+    /// Reports what was read for a ticket, as `step` does with a `LoadEnd`. Gives the buffer of the read back beside the reply, unless the
+    /// read failed or the reply returns the step. What was read is judged before the lock is taken: a pair takes its memory from this
+    /// allocator.
     pub fn end_load(
         &self,
         rt: &impl Wait,

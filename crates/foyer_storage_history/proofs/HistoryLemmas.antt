@@ -75,6 +75,10 @@ pub ok_map : {X P Q : Type 0} (result : Result X Error) → (P → Q) → OnOk r
 ok_map (Ok x) so holds = so holds
 ok_map (Err e) so holds = tt
 
+pub ok_map2 : {X P Q R : Type 0} (result : Result X Error) → (P → Q → R) → OnOk result P → OnOk result Q → OnOk result R
+ok_map2 (Ok x) so holds also = so holds also
+ok_map2 (Err e) so holds also = tt
+
 pub ok_cleared : {K V P So : Type 0} (reply : Reply K V P Global) (done : Result (Unit {0}) Error) → cleared_as reply ≡ Some done → (reply ≡ replies.Cleared → So) → OnOk done So
 ok_cleared {So = So} replies.Cleared done is so = subst (λ r. OnOk r So) (some_is is) (so refl)
 ok_cleared {So = So} (replies.Refused kind back) done is so = subst (λ r. OnOk r So) (some_is is) tt

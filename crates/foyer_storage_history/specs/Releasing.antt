@@ -30,7 +30,7 @@ module _ {K V P : Type 0} where
   AnswersWait id (replies.Ended pieces waits) = (at : ℕ) × (slice_get waits.items at ≡ Some id)
   AnswersWait id other = ⊥
 
-  -- what became of the front of a queue: a piece that was handed back was released by its own number
+  -- what became of the front of a queue: a piece that was returned was released by its own number
   abbrev pub IsFrontOf : Reply K V P Global → Front → Type 0
   IsFrontOf (replies.Received None) became = became ≡ front.Taken
   IsFrontOf (replies.Received (Some piece)) became = (shown : Released) × (became ≡ front.Back shown) × (shown.hash ≡ piece.piece.hash) × (shown.number ≡ piece.number)

@@ -22,14 +22,14 @@ use foyer_policy_filter::StorageFilterCondition;
 use std::alloc::Global;
 use std::sync::Wait;
 
-/// What shows that a caller's session asked for a destroy, which began or had begun: only that step gives it.
+/// Shows that a caller's session asked for a destroy that began or had begun. Only `begin_destroy` makes it.
 #[derive(Drop)]
 pub(crate) struct DestroyBegun {
     // Whether none had begun before.
     is_first: bool,
 }
 
-// What the reply to it says.
+// What the reply to a `DestroyBegin` says.
 fn begun_of<K: Drop, V: Drop, P: Drop>(reply: Reply<K, V, P, Global>) -> Result<DestroyBegun>
     ensures { OnOk result (is_refused (reply_brief reply) ≡ false) }
 {

@@ -102,9 +102,10 @@ where
     C: StorageFilterCondition,
     D: Disk + Drop,
 {
-    /// Opens an engine over a disk whose bytes are known, with an empty history of the name `J` and the witness of all its rights; the session
-    /// has all parts but one. Pieces that are queued are kept in so many shards. `Config`, if the settings can't be met, or ask for a log of
-    /// deletes; `Recover` for bytes that a strict recovery refuses; `Memory`; `SequenceEnd`.
+    /// Opens an engine over a disk whose bytes are known, with an empty history of the name `J` and the witness of all its rights. Requires
+    /// at least two parts and at least one shard. The session has all parts except one. Pieces that are queued are kept in this many
+    /// shards. Errors: `Config` if the settings don't go together or ask for a log of deletes; `Recover` if a read failed in `Strict`;
+    /// `SequenceEnd` if what was found has the last sequence; `Memory`.
     #[tactic(auto, using(crate::proofs::HistoryLemmas::nil_is))]
     pub fn open(
         history: ToldHistory<K, V, P, Global, D>,
@@ -168,7 +169,8 @@ where
         &self.settings
     }
 
-    /// Gives so many parts of a session to another one, for another thread, which has seen what the first has.
+    /// Splits off a session for another thread, with this many parts, at least one and fewer than `session` has. The new session has seen
+    /// what `session` has seen.
     #[tactic(auto, using(crate::proofs::HistoryLemmas::nil_is))]
     pub fn split(
         &self,
@@ -215,7 +217,7 @@ where
         }
     }
 
-    // Writes what is queued, if so much is that a piece isn't taken.
+    // Writes one batch of each flusher, if so much is queued that a piece isn't taken.
     #[tactic(auto, using(crate::proofs::HistoryLemmas::nil_is))]
     fn make_room(&self, rt: &impl Wait) {
         if self.shared.is_full(rt) {
@@ -223,8 +225,7 @@ where
         }
     }
 
-    // Looks a hash up and reads what it stands for, once all pieces of it that were queued have left their flusher; until then, what is queued is
-    // written.
+    // Loads a hash once it is known that all its queued pieces have left their flusher. Until then, it writes what is queued.
     #[tactic(auto, using(crate::proofs::HistoryLemmas::nil_is, crate::proofs::HistoryLemmas::goes_self))]
     fn load_written(
         &self,
@@ -293,7 +294,7 @@ where
         self.enqueue_into(rt, session, &mut lock_spinning(lock, rt), piece, size)
     }
 
-    /// Queues a piece, and keeps it in this keeper if it is queued. If too much is queued that is written first.
+    /// Queues a piece, and keeps it in this keeper if it is queued. If too much is queued, one batch of each flusher is written first.
     #[tactic(auto, using(crate::proofs::HistoryLemmas::nil_is))]
     pub fn enqueue_kept(
         &self,
@@ -310,7 +311,7 @@ where
         self.enqueue_at(rt, session, keeper.shard(piece.hash()), piece, size)
     }
 
-    /// Accepts a delete of a hash.
+    /// Accepts a delete of a hash. If too much is queued, one batch of each flusher is written first.
     #[tactic(auto, using(crate::proofs::HistoryLemmas::nil_is))]
     pub fn delete_hash(
         &self,
@@ -327,7 +328,7 @@ where
         deleted_of(reply)
     }
 
-    /// Whether a hash is indexed, of which a keeper had no piece.
+    /// Whether the index has an address for a hash of which a keeper had no piece.
     #[tactic(auto, using(crate::proofs::HistoryLemmas::nil_is))]
     pub fn is_indexed(
         &self,
@@ -345,9 +346,9 @@ where
         answer_of(reply)
     }
 
-    /// Looks a hash up, of which a keeper had no piece, and reads what it stands for, once all pieces of it that were queued are written. An entry
-    /// was put last under its hash at a moment of the call, in the one history of all threads: it was the newest put, and no piece that had
-    /// been queued was newer, unless a batch had failed since or a destroy had cleared the index. A miss has its cause there.
+    /// Loads a hash of which a keeper had no piece, once it is known that all its queued pieces were written or given up. An entry was put
+    /// last under its hash at a moment of the call, in the one history of all threads: it was the newest put, and no queued piece was
+    /// newer, unless a batch had failed since or a destroy had cleared the index. A miss has its cause there.
     #[tactic(auto, using(crate::proofs::HistoryLemmas::nil_is))]
     pub fn load_newest(
         &self,

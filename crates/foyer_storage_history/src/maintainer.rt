@@ -51,20 +51,20 @@ const MOST_OF_A_BATCH: u32 = 64;
 // What became of the question for a batch's next block.
 #[derive(Clone, Copy, Debug, PartialEq, Eq)]
 enum BlockStep {
-    // It was written, or a write of it failed; or memory was refused: the batch goes on.
+    // It was written, or a write of it failed, or memory was refused. The caller asks for a block again.
     Again,
-    // No block is clean.
+    // No block can be handed out.
     NoBlock,
-    // There is none.
+    // The batch has no next block.
     Over,
 }
 
 /// What a flush did.
 #[derive(Clone, Copy, Debug, PartialEq, Eq)]
 pub(crate) enum Flushed {
-    /// Nothing was queued.
+    /// Nothing was received, and no batch began.
     Nothing,
-    /// A batch ended, or nothing but the front of the queue was taken.
+    /// A batch was written, or something was received but no batch began.
     Some,
     /// A batch ended that had this wait.
     Answered,
@@ -87,13 +87,13 @@ fn has_wait(waits: &[u64], id: u64) -> bool
 enum Front {
     // It was taken into the buffer.
     Taken,
-    // It was a piece that doesn't fit, and was released.
+    // It was a piece that doesn't fit, or whose code fails, and was released.
     Back(Released),
     // Nothing was taken.
     Over,
 }
 
-// What the reply to a question for the front of a queue says. A piece that is handed back is released.
+// What the reply to a question for the front of a queue says. A returned piece is released.
 fn front_of<K: Eq + Drop, V: Drop, P: Drop>(
     rt: &impl Wait,
     keeper: &Keeper<K, V, P, Global>,
@@ -127,7 +127,7 @@ struct BatchEnd<K, V, P> {
     released: Option<AllReleased<K, V, P, Global>>,
 }
 
-// What the reply to a batch's end says: the pieces are released, in their order. Whether it answers this wait.
+// Releases the pieces of a batch's end, in their order. Says whether the end answers this wait.
 fn ended_of<K: Eq + Drop, V: Drop, P: Drop>(
     rt: &impl Wait,
     keeper: &Keeper<K, V, P, Global>,
@@ -153,7 +153,7 @@ fn ended_of<K: Eq + Drop, V: Drop, P: Drop>(
     }
 }
 
-/// The session that has the rights of all flushers and blocks. It lies behind a lock: who holds that writes, reclaims and destroys.
+/// The session that has the rights of all flushers and blocks. It lies behind a lock: whoever holds the lock writes, reclaims and destroys.
 pub(crate) struct Maintainer<J, L, K, V, P, D>
 where
     J: HistoryName,
@@ -200,7 +200,7 @@ where
     P: Properties + Drop,
     D: Disk,
 {
-    /// One with a session that has all rights, of a core that was opened with these settings.
+    /// Makes a maintainer of a session that has all rights, for a core that was opened with these settings.
     #[tactic(auto, using(crate::proofs::HistoryLemmas::nil_is))]
     pub(crate) fn new(
         told: ToldSession<L, K, V, P, Global, D>,
@@ -238,7 +238,7 @@ where
         self.told.see(shared.history(), caller);
     }
 
-    /// Shows a caller what it has seen.
+    /// Lets a caller see what this session has seen.
     #[tactic(auto, using(crate::proofs::HistoryLemmas::nil_is))]
     pub(crate) fn show<E, C>(
         &mut self,
@@ -257,7 +257,7 @@ where
         caller.see(shared.history(), &mut self.told);
     }
 
-    // One step that takes no right, again while memory is refused for it.
+    // Makes one step that takes no right, and repeats it while memory is refused.
     #[tactic(auto, using(crate::proofs::HistoryLemmas::nil_is))]
     fn ask<E, C>(
         &mut self,
@@ -277,8 +277,8 @@ where
         shared.ask_again(rt, &mut self.told, no_io(), step)
     }
 
-    // Takes what is queued at a flusher into its buffer, until nothing is, a piece doesn't fit, or a batch has enough: whether anything was
-    // taken.
+    // Takes what is queued at a flusher into its buffer, until nothing is queued, a piece doesn't fit, or a batch has enough. Gives whether
+    // anything was taken.
     #[tactic(auto, using(crate::proofs::HistoryLemmas::nil_is, crate::proofs::HistoryLemmas::goes_on, crate::proofs::HistoryLemmas::goes_self))]
     fn receive<E, C>(
         &mut self,
@@ -308,7 +308,7 @@ where
         is_busy
     }
 
-    // Has the next block of a batch issued.
+    // Asks for the next block of a batch.
     #[tactic(auto, using(crate::proofs::HistoryLemmas::nil_is))]
     fn issue<E, C>(
         &mut self,
@@ -347,7 +347,7 @@ where
         let _ = shared.write_all(rt, &mut self.told, flusher, block, writes);
     }
 
-    // Has the next block of a batch issued, and writes it.
+    // Asks for the next block of a batch, and writes it.
     #[tactic(auto, using(crate::proofs::HistoryLemmas::nil_is, crate::proofs::HistoryLemmas::goes_on, crate::proofs::HistoryLemmas::goes_self))]
     fn write_block<E, C>(
         &mut self,
@@ -402,7 +402,7 @@ where
         unreachable!()
     }
 
-    // Ends a batch: its pieces are released, each by its own number. Whether it answers this wait.
+    // Ends a batch, and releases its pieces, each by its own number. Says whether the end answers this wait.
     #[tactic(auto, using(crate::proofs::HistoryLemmas::nil_is))]
     fn end_batch<E, C>(
         &mut self,
@@ -424,7 +424,7 @@ where
         ended_of(rt, keeper, reply, id)
     }
 
-    /// Takes what is queued at a flusher, and writes it as one batch.
+    /// Takes at most 64 submissions of a flusher's queue, and writes them as one batch.
     #[tactic(auto, using(crate::proofs::HistoryLemmas::nil_is, crate::proofs::HistoryLemmas::goes_on, crate::proofs::HistoryLemmas::goes_self))]
     pub(crate) fn flush<E, C>(
         &mut self,

@@ -52,7 +52,7 @@ where
     P: Properties,
     D: Disk,
 {
-    /// A session of this history that has some parts.
+    /// Makes a session from one of this history. Requires that `told` has a part.
     pub fn new(told: ToldSession<L, K, V, P, Global, D>) -> HistorySession<J, L, K, V, P, D>
         requires mine { (told.witness.table_id ≡ J.table) × (told.witness.me.1 ≡ []) }
         requires some { 0 < told.session.shares.parts }
@@ -79,7 +79,7 @@ where
         self.told.session.parts()
     }
 
-    /// How many steps of each kind were noted with it, in the order of the kinds; 2^64 - 1 stands for all numbers above.
+    /// Gives how many steps of each kind were noted with its share, in the order of the kinds. 2^64 - 1 means this many or more.
     pub fn tally(&self) -> [u64; 8]
         ensures { result ≡ listed (shown self.now.told.session.shares.amounts) }
     {

@@ -37,8 +37,8 @@ where
     C: StorageFilterCondition,
     D: Disk + Drop,
 {
-    /// A store over this engine, opened at a moment in nanoseconds. Its callers' sessions are split before: the engine goes into the store.
-    /// `Memory`.
+    /// Makes a store over this engine. `now` is the present moment in nanoseconds. Split the callers' sessions before, since the engine
+    /// goes into the store. Errors: `Memory` alone.
     pub fn into_store<H: Drop>(
         self,
         alloc: Global,

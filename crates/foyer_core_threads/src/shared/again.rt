@@ -1,4 +1,4 @@
-//! A step that is made in the end.
+//! Steps that are repeated while memory is refused.
 ghost use Rattle.std.specs.Prelude.{◌≡◌, ◌<◌, ℕ, [], Some, true};
 ghost use Rattle.foyer_core_chronicle.specs.Rights.{times};
 ghost use Rattle.foyer_core_laws.specs.Content.{meaning};
@@ -52,7 +52,8 @@ where
     N: Noting,
     D: Disk,
 {
-    /// One step as `step` makes it, again while memory is refused for it. It is no end of a load. Each refusal is an event of the history too.
+    /// Makes one step as `step` does, and repeats it while memory is refused. Requires that the step is no `LoadEnd`. Each refusal by the
+    /// core is an event of the history too, but a refusal of memory for the note is none.
     pub fn step_again(
         &self,
         rt: &impl Wait,
@@ -87,7 +88,7 @@ where
         unreachable!()
     }
 
-    /// One step that takes no right and brings no outcome of an access, as `step_again` makes it.
+    /// Makes one step as `step_again` does. Requires that the step takes no right and reports no access.
     pub fn ask_again(
         &self,
         rt: &impl Wait,

@@ -43,7 +43,8 @@ where
     N: Noting,
     D: Disk,
 {
-    /// Clears the index for a destroy that has begun, once nothing is under way. After `Cleared` the clean of each block is to be done.
+    /// Clears the index for a destroy that has begun, if no flusher has anything queued, received or in a batch, and no reclaim runs. After
+    /// `Cleared`, `clean_cleared` must clean each block. Repeats the step while memory is refused.
     pub fn clear(
         &self,
         rt: &impl Wait,
@@ -64,8 +65,8 @@ where
         self.ask_again(rt, session, no_io(), Step::DestroyClear)
     }
 
-    /// Cleans a block for a destroy, whose clean was issued, under the disk's lock, and reports the outcome. The session has the right of the
-    /// block's clean. Cleans of other blocks stay to be done, if the session has their rights.
+    /// Cleans a block for a destroy, under the disk's lock, and reports the outcome. Requires that the clean was issued, and that the
+    /// session has its right. Cleans of other blocks that were issued stay so, if the session has their rights.
     pub fn clean_cleared(
         &self,
         rt: &impl Wait,

@@ -59,8 +59,8 @@ where
     N: Noting,
     D: Disk,
 {
-    /// Does the read of a ticket under the disk's lock, while the core's is free. The session has the right of the ticket, by its number. `Memory`
-    /// is refused before anything is read.
+    /// Does the read of a ticket under the disk's lock, while the core's lock is free. Requires that the session has the ticket's right,
+    /// and that the read was issued and isn't done. Errors: `Memory` alone, before anything is read.
     pub fn read(
         &self,
         rt: &impl Wait,
@@ -90,9 +90,9 @@ where
         Ok(outcome)
     }
 
-    /// A load as `load` does it, if all pieces of the hash that were queued have left their flusher; else nothing is done, and the answer is `None`.
-    /// An entry was put last under its hash at a moment between the call and the return: it was the newest put, and no piece that had been
-    /// queued was newer, unless a batch had failed since or a destroy had cleared the index.
+    /// Does a load as `load` does, if it is known that all queued pieces of the hash have left their flusher. Else does nothing, and gives
+    /// `None`. At a moment between the call and the return, an answered entry was the newest put of its hash. No piece of the hash that had
+    /// been queued by then was newer, unless a batch had failed since or a destroy had cleared the index.
     pub fn load_written(
         &self,
         rt: &impl Wait,
@@ -132,9 +132,10 @@ where
         Some(Ok(reply))
     }
 
-    /// Looks a hash up, reads what it stands for, and ends the load: the last reply. An entry was the newest put of its hash at a moment
-    /// between the call and the return, in the one history of all threads, after all that the session had seen. A miss has its cause there.
-    /// `Memory` is a read for which none was found: then its look-up issued a ticket, and nothing was read.
+    /// Looks a hash up, does the read that the look-up issues, and ends the load. Gives the last reply. At a moment between the call and
+    /// the return, an answered entry was the newest put of its hash. This is so in the one history of all threads, after all that the
+    /// session had seen. A miss has its cause there. Errors: `Memory` if memory for the read was refused. Then the look-up issued a ticket,
+    /// and nothing was read.
     pub fn load(
         &self,
         rt: &impl Wait,

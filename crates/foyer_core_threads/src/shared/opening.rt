@@ -1,4 +1,4 @@
-//! An opening, told as the first event.
+//! An opening, recorded as the first event of the history.
 ghost use Rattle.std.specs.Prelude.{◌≡◌, ◌≢◌, ◌⊎◌, ◌<◌, ℕ, [], ◌∷◌, IfErr, IfOk};
 ghost use Rattle.foyer_block_recover.specs.Recovery.{marks_of};
 ghost use Rattle.foyer_block_recover.specs.declared.block.recover.RecoverMode.TheVariants as recover_mode;
@@ -50,8 +50,8 @@ where
     N: Noting,
     D: Disk + Drop,
 {
-    /// Opens a core over a disk whose bytes are known, as `Locked::open` does, and tells the opening: the first event of a new history is that
-    /// of a core that was opened from the disk's bytes. The session has all parts, and all rights of flushers and blocks.
+    /// Opens a core over a disk whose bytes are known, as `Locked::open` does. The first event of a new history is this opening of a core
+    /// from the disk's bytes. The session has all parts, and all rights of flushers and blocks.
     pub fn open(
         history: ToldHistory<K, V, P, A, D>,
         witness: ToldWitness<K, V, P, A, D>,

@@ -45,7 +45,7 @@ where
     N: Noting,
     D: Disk,
 {
-    /// Begins to reclaim a block, if one may begin. Then the block's first index is to be read.
+    /// Begins to reclaim a block, if a reclaim may begin. After `Picked`, `scan` must read the block's first index.
     pub fn pick(
         &self,
         rt: &impl Wait,
@@ -67,8 +67,8 @@ where
         reply
     }
 
-    /// Does the read of a block that is reclaimed, which was issued, under the disk's lock, and brings what it gave. The session has the right of the
-    /// block's reads. If the reply asks for another part, that is to be read.
+    /// Does a read for the reclaim of a block, under the disk's lock, and reports what it gave. Requires that the read was issued, and that
+    /// the session has the right of the block's reads. After `Scan`, the part that it asks for must be read next.
     pub fn scan(
         &self,
         rt: &impl Wait,
@@ -101,7 +101,8 @@ where
         self.step_again(rt, session, no_io(), step)
     }
 
-    /// Has what a reclaimed block holds forgotten. If its clean is issued, that is to be done.
+    /// Takes what was listed of a reclaimed block out of the index, except what was queued for reinsertion. After `Clean` the block is to
+    /// be cleaned by `clean`.
     pub fn forget(
         &self,
         rt: &impl Wait,
@@ -122,8 +123,8 @@ where
         reply
     }
 
-    /// Cleans a block that is reclaimed, whose clean was issued, under the disk's lock, and reports the outcome. The session has the right of the
-    /// block's clean.
+    /// Cleans a block for its reclaim, under the disk's lock, and reports the outcome. Requires that the clean was issued, and that the
+    /// session has its right.
     pub fn clean(
         &self,
         rt: &impl Wait,

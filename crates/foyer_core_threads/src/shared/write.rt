@@ -44,8 +44,8 @@ where
     N: Noting,
     D: Disk,
 {
-    /// Has the next block of a flusher's batch issued. The session has the right of the flusher's writes. If writes are issued, they are to be done
-    /// one after the other.
+    /// Asks for the next block of a flusher's batch. Requires that the session has the right of the flusher's writes. After `Write`,
+    /// `write` or `write_all` must do the writes, one after the other.
     pub fn issue(
         &self,
         rt: &impl Wait,
@@ -69,8 +69,8 @@ where
         reply
     }
 
-    /// Does the next write of a flusher, which was issued, under the disk's lock, and reports its outcome. After `Next` the writes behind it are
-    /// to be done.
+    /// Does the next write of a flusher, under the disk's lock, and reports the outcome. Requires that the write was issued, and that the
+    /// session has the right of the flusher's writes. After `Next`, the remaining writes of the block must be done.
     pub fn write(
         &self,
         rt: &impl Wait,
@@ -103,7 +103,8 @@ where
         self.step_again(rt, session, no_io(), step)
     }
 
-    /// Does the writes of a block, which were issued, and reports each, until one fails or ends the block: the last reply, if there was one.
+    /// Does the issued writes of a block, one after the other, and reports each, until a reply isn't `Next`. Gives this reply, or `None` if
+    /// there is none. Requires the right of the flusher's writes.
     pub fn write_all(
         &self,
         rt: &impl Wait,

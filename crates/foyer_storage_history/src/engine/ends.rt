@@ -28,7 +28,7 @@ use foyer_policy_filter::StorageFilterCondition;
 use std::alloc::Global;
 use std::sync::Wait;
 
-// What the reply to a close is answered as.
+// The answer of a close, by the core's reply.
 fn closed_of<K: Drop, V: Drop, P: Drop>(reply: Reply<K, V, P, Global>) -> Result<()>
     ensures done { OnOk result (reply ≡ replies.Done) }
     ensures refused { may_reply steps.Close reply ≡ true → IfErr result (λ e. (is_draw_error e ≡ true) ⊎ (e ≡ error.Unsupported)) }
@@ -76,7 +76,7 @@ where
         )
     }
 
-    /// Waits until all that was queued before is written: each flusher in turn. It makes no step by this session.
+    /// Waits, flusher by flusher, until all that was queued before is written or given up. This session makes no step.
     #[tactic(auto, using(crate::proofs::HistoryLemmas::nil_is, crate::proofs::HistoryLemmas::goes_on, crate::proofs::HistoryLemmas::goes_self))]
     pub fn wait_all(
         &self,
@@ -97,7 +97,7 @@ where
         Ok(())
     }
 
-    // Has the core closed.
+    // Closes the core.
     #[tactic(auto, using(crate::proofs::HistoryLemmas::nil_is))]
     fn close_core(
         &self,
@@ -116,7 +116,7 @@ where
         closed_of(reply)
     }
 
-    /// Takes no more puts, deletes and destroys, and waits. Its session counts no put, delete, load or destroy.
+    /// Refuses puts, deletes and destroys from now on, and waits as `wait_all` does. The session counts no put, delete, load or destroy.
     #[tactic(auto, using(crate::proofs::HistoryLemmas::nil_is, crate::proofs::HistoryLemmas::goes_on, crate::proofs::HistoryLemmas::goes_self))]
     pub fn close_all(
         &self,
@@ -136,8 +136,8 @@ where
         self.wait_all(rt, session)
     }
 
-    /// Destroys all entries: what was put before is gone. Its session counts no put, delete, load or close. `Io`, or another kind, is that of the first
-    /// clean that failed.
+    /// Destroys all entries: what was put before is gone. The session counts no put, delete, load or close. Errors: `Closed` after a close;
+    /// `SequenceEnd` if no step or sequence is left; the kind of the first clean that failed, `Io` or `Memory`.
     #[tactic(auto, using(crate::proofs::HistoryLemmas::nil_is, crate::proofs::HistoryLemmas::goes_on))]
     pub fn destroy_all(
         &self,

@@ -6,7 +6,7 @@ ghost use Rattle.foyer_core_steps.specs.declared.reply.Reply.TheVariants as repl
 ghost use Rattle.foyer_core_steps.specs.declared.step.Step.TheVariants as steps;
 ghost use Rattle.foyer_core_threads.specs.Going.{GoesOn, IsMadeAgain};
 ghost use Rattle.foyer_io_told.specs.ToldAccess.{HasClean};
-ghost use Rattle.foyer_storage_history.specs.HistoryCalls.{AreCleaned, IsAllDestroyed, IsCleared, cleared_as, destroyed_as};
+ghost use Rattle.foyer_storage_history.specs.HistoryCalls.{AreCleaned, IsAllDestroyed, IsCleared, IsDestroyed, cleared_as, destroyed_as};
 
 use super::{Flushed, HistoryCore, Maintainer};
 use crate::begun::DestroyBegun;
@@ -28,7 +28,7 @@ use std::alloc::Global;
 use std::sync::Wait;
 use std::thread;
 
-// What the report of a destroy's clean is answered as.
+// The answer of a destroy, by the reply to the report of a clean.
 fn destroyed_of<K: Drop, V: Drop, P: Drop>(reply: Reply<K, V, P, Global>) -> Result<()>
     ensures { result ≡ destroyed_as reply }
 {
@@ -40,7 +40,7 @@ fn destroyed_of<K: Drop, V: Drop, P: Drop>(reply: Reply<K, V, P, Global>) -> Res
     }
 }
 
-// What the reply to a destroy's clear is answered as, if it is over with that.
+// The answer of a destroy's clear, or `None` if the clear is to be tried again.
 fn cleared_of<K: Drop, V: Drop, P: Drop>(reply: Reply<K, V, P, Global>) -> Option<Result<()>>
     ensures { result ≡ cleared_as reply }
 {
@@ -86,7 +86,7 @@ where
         unreachable!()
     }
 
-    // Clears the index, if nothing is under way.
+    // Clears the index, if no flusher has anything to do and no reclaim runs.
     #[tactic(auto, using(crate::proofs::HistoryLemmas::nil_is))]
     fn try_clear<E, C>(
         &mut self,
@@ -200,8 +200,8 @@ where
         ended
     }
 
-    /// Destroys all entries, after all that a caller has seen, whose destroy has begun: writes what is queued, clears the index, and cleans each
-    /// block. Then the caller has seen that.
+    /// Destroys all entries for a caller whose destroy has begun, after all that the caller has seen. Writes what is queued, clears the
+    /// index, and cleans each block. The caller has then seen that, unless the index couldn't be cleared.
     #[tactic(auto, using(crate::proofs::HistoryLemmas::nil_is, crate::proofs::HistoryLemmas::goes_on, crate::proofs::HistoryLemmas::goes_self))]
     pub(crate) fn destroy<E, C>(
         &mut self,
@@ -218,6 +218,7 @@ where
         C: StorageFilterCondition,
         requires mine { (caller.old.witness.table_id ≡ J.table) × (caller.old.witness.me.1 ≡ []) }
         ensures mine { (caller.new.witness.table_id ≡ J.table) × (caller.new.witness.me.1 ≡ []) × (caller.new.session ≡ caller.old.session) }
+        ensures blocks { OnOk result (IsDestroyed (meaning K.encoding V.encoding K.is_encodable V.is_encodable K.is_decodable V.is_decodable P.age) D.byte_at caller.old.witness.me.0 caller.new.witness.me.0 (self.old.settings.blocks - 1) result) }
         ensures destroyed { OnOk result (IsAllDestroyed (meaning K.encoding V.encoding K.is_encodable V.is_encodable K.is_decodable V.is_decodable P.age) D.byte_at caller.old.witness.me.0 caller.new.witness.me.0 result) }
         ensures on { GoesOn (meaning K.encoding V.encoding K.is_encodable V.is_encodable K.is_decodable V.is_decodable P.age) D.byte_at caller.old.witness.me.0 caller.new.witness.me.0 }
         ensures settings { self.new.settings ≡ self.old.settings }

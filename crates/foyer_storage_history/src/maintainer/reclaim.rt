@@ -50,7 +50,7 @@ where
         shared.pick(rt, &mut self.told)
     }
 
-    // Reads a part of a block that is reclaimed: what is to be read next.
+    // Reads a part of a block that is reclaimed. Gives what is to be read next.
     #[tactic(auto, using(crate::proofs::HistoryLemmas::nil_is))]
     fn scan<E, C>(
         &mut self,
@@ -99,7 +99,7 @@ where
         unreachable!()
     }
 
-    // Has what a reclaimed block holds forgotten.
+    // Takes what was listed of a reclaimed block out of the index.
     #[tactic(auto, using(crate::proofs::HistoryLemmas::nil_is))]
     fn forget<E, C>(
         &mut self,
@@ -135,7 +135,7 @@ where
         let _ = shared.clean(rt, &mut self.told, block);
     }
 
-    // Has what a reclaimed block holds forgotten, and cleans it: again while memory is refused for that.
+    // Takes what was listed of a reclaimed block out of the index, and cleans the block. Tries again while memory is refused.
     #[tactic(auto, using(crate::proofs::HistoryLemmas::nil_is, crate::proofs::HistoryLemmas::goes_on, crate::proofs::HistoryLemmas::goes_self))]
     fn clean_reclaimed<E, C>(
         &mut self,

@@ -51,12 +51,13 @@ type NumberEngine<J, L> = HistoryEngine<
 
 type Caller<J, L> = HistorySession<J, L, u64, u64, NoProperties, Disk>;
 
-// An engine over four blocks of 64 KiB in memory, and the session that has all parts but one.
+// An engine with this many flushers over four blocks of 64 KiB in memory, and the session that has all parts but one.
 fn opened<J: HistoryName, L: Kinds>(
     alloc: Global,
     history: ToldHistory<u64, u64, NoProperties, Global, Disk>,
     witness: ToldWitness<u64, u64, NoProperties, Global, Disk>,
     blanks: Blanks,
+    flushers: u32,
 ) -> Result<(NumberEngine<J, L>, Caller<J, L>)>
     requires history { history.table.shared.table_id ≡ J.table }
     requires witness { (witness.table_id ≡ J.table) × (witness.me ≡ (newcomer (ids rights_count), [])) }
@@ -64,7 +65,10 @@ fn opened<J: HistoryName, L: Kinds>(
     ensures parts { IfOk result (λ r. r.1.told.session.shares.parts ≡ 2 ^ 32 - 1) }
 {
     let env = Env::with_default_pickers(alloc, 0)?;
-    let settings = Settings::new(4, 1 << 16);
+    let settings = Settings {
+        flushers,
+        ..Settings::new(4, 1 << 16)
+    };
     let disk = MemoryDisk::new(alloc, settings.blocks, settings.block_size)?;
     let mode = RecoverMode::None;
     NumberEngine::<J, L>::open(
@@ -183,7 +187,7 @@ fn run<J: HistoryName, L: Kinds>(
     requires witness { (witness.table_id ≡ J.table) × (witness.me ≡ (newcomer (ids rights_count), [])) }
     requires ledgers { AreOf L.name_of L.all blanks × (L.all ≡ 2 ^ 32) }
 {
-    let (engine, mut session) = opened::<J, L>(alloc, history, witness, blanks)?;
+    let (engine, mut session) = opened::<J, L>(alloc, history, witness, blanks, 1)?;
     let store = engine.into_store(alloc, "numbers", hashes(), 0)?;
     let answers = ask(rt, alloc, &store, &mut session)?;
     store.close(rt, &mut session)?;
@@ -213,12 +217,13 @@ fn run_beside<J: HistoryName, L: Kinds>(
     history: ToldHistory<u64, u64, NoProperties, Global, Disk>,
     witness: ToldWitness<u64, u64, NoProperties, Global, Disk>,
     blanks: Blanks,
+    flushers: u32,
 ) -> Result<[[Option<(u64, bool)>; 2]; 2]>
     requires history { history.table.shared.table_id ≡ J.table }
     requires witness { (witness.table_id ≡ J.table) × (witness.me ≡ (newcomer (ids rights_count), [])) }
     requires ledgers { AreOf L.name_of L.all blanks × (L.all ≡ 2 ^ 32) }
 {
-    let (engine, mut session) = opened::<J, L>(alloc, history, witness, blanks)?;
+    let (engine, mut session) = opened::<J, L>(alloc, history, witness, blanks, flushers)?;
     let store = engine.into_store(alloc, "numbers", hashes(), 0)?;
     let same = ask_beside(rt, alloc, &store, &mut session, 202, 264)?;
     let apart = ask_beside(rt, alloc, &store, &mut session, 1, 2)?;
@@ -265,7 +270,7 @@ where
     requires witness { (witness.table_id ≡ J.table) × (witness.me ≡ (newcomer (ids rights_count), [])) }
     requires ledgers { AreOf L.name_of L.all blanks × (L.all ≡ 2 ^ 32) }
 {
-    let (engine, mut one) = opened::<J, L>(alloc, history, witness, blanks)?;
+    let (engine, mut one) = opened::<J, L>(alloc, history, witness, blanks, 1)?;
     let two = engine.split(&mut one, 1);
     let three = engine.split(&mut one, 1);
     let store = engine.into_store(alloc, "numbers", hashes(), 0)?;
@@ -273,7 +278,7 @@ where
 }
 
 #[test]
-fn calls_of_one_thread_are_answered_so(rt: HostRuntime) -> std::result::Result<(), Fail> {
+fn calls_of_one_thread_answer_the_newest_pair(rt: HostRuntime) -> std::result::Result<(), Fail> {
     let alloc = rt.alloc();
     let (history, witness) = open_history(alloc)?;
     let ran = run::<Brand, Brand>(&rt, alloc, history, witness, Blanks::new(1 << 32));
@@ -294,8 +299,21 @@ fn a_load_writes_what_is_queued_of_its_class_alone(
 ) -> std::result::Result<(), Fail> {
     let alloc = rt.alloc();
     let (history, witness) = open_history(alloc)?;
-    let ran = run_beside::<Brand, Brand>(&rt, alloc, history, witness, Blanks::new(1 << 32));
+    let ran = run_beside::<Brand, Brand>(&rt, alloc, history, witness, Blanks::new(1 << 32), 1);
     let answers = [[None, Some((0, true))], [None, Some((0, false))]];
+    assert_eq!(rt; ran?, answers);
+    Ok(())
+}
+
+// The hashes of 202 and 264 have one remainder by 65,536, but belong to different flushers of three.
+#[test]
+fn a_load_returns_while_another_flusher_has_pieces(
+    rt: HostRuntime,
+) -> std::result::Result<(), Fail> {
+    let alloc = rt.alloc();
+    let (history, witness) = open_history(alloc)?;
+    let ran = run_beside::<Brand, Brand>(&rt, alloc, history, witness, Blanks::new(1 << 32), 3);
+    let answers = [[None, Some((0, false))], [None, Some((0, false))]];
     assert_eq!(rt; ran?, answers);
     Ok(())
 }

@@ -1,5 +1,5 @@
 use Rattle.foyer_core_tally.specs.Ledgers.{names_in}
-use Rattle.test_history.proofs.tests.stores.calls_of_one_thread_are_answered_so.Given as goal
+use Rattle.test_history.proofs.tests.stores.calls_of_one_thread_answer_the_newest_pair.Given as goal
 
 abbrev pub ghosts-run-J-HistoryName : goal.ghosts-run-J-HistoryName
 ghosts-run-J-HistoryName g a = record { table = a.history.table.shared.table_id }
