@@ -6,8 +6,8 @@ use foyer_device_page::error::{Error, Result};
 use foyer_io_disk::disk::Disk;
 use std::alloc::Allocator;
 
-/// Passes each call on, except the one that is counted down to. If that call is a read, it gives nothing. If it is a write, it writes a front
-/// of its bytes.
+/// A disk that passes each call on to another disk, except one call, which gives `Io`. If that call is a read, it reads nothing. If it is
+/// a write, it writes only the first bytes.
 #[derive(Drop)]
 pub struct Failing<D: Disk + Drop> {
     inner: D,
@@ -17,7 +17,8 @@ pub struct Failing<D: Disk + Drop> {
 }
 
 impl<D: Disk + Drop> Failing<D> {
-    /// Fails the n-th read or write, from 1, a write after `kept` bytes. With 0 it fails none.
+    /// Gives a disk that fails the n-th read or write, counted from 1. A write that fails writes the first `kept` bytes. With 0 no call
+    /// fails.
     pub fn new(inner: D, n: u64, kept: usize) -> Failing<D> {
         Failing {
             inner,
@@ -27,7 +28,7 @@ impl<D: Disk + Drop> Failing<D> {
         }
     }
 
-    /// Whether the call has come.
+    /// Whether that call was made. It is always true if `n` is 0.
     pub fn has_failed(&self) -> bool {
         self.left == 0
     }

@@ -1,4 +1,4 @@
-//! Forged blocks, some reads of which fail.
+//! A disk of forged blocks. Some of its reads fail.
 use foyer_block_index::manager::BlockId;
 use foyer_device_page::error::{Error, Result};
 use foyer_format_blob::BlobEntryIndex;
@@ -10,7 +10,7 @@ pub const BLOCK_SIZE: usize = 16384;
 
 pub const INDEX_SIZE: usize = 4096;
 
-/// The blocks' bytes, one block behind another; the offsets whose reads fail; how many reads there were; and how many
+/// A disk in memory: its bytes, one block after another; the offsets in them at which reads fail; how many reads there were; and how many
 /// accesses failed.
 #[derive(Drop)]
 pub struct ForgedDisk {
@@ -21,7 +21,7 @@ pub struct ForgedDisk {
 }
 
 impl ForgedDisk {
-    /// Blocks of zeros.
+    /// Gives a disk of blocks of zeros. Errors: `Memory`.
     pub fn new(alloc: Global, blocks: u32) -> Result<ForgedDisk> {
         Ok(ForgedDisk {
             bytes: vec![in alloc; 0u8; BLOCK_SIZE * blocks as usize]?,
@@ -31,7 +31,7 @@ impl ForgedDisk {
         })
     }
 
-    /// Puts bytes at an offset of the disk, if they have room there.
+    /// Puts a page at an offset of the disk, if it has room there.
     pub fn put(&mut self, at: usize, page: &[u8; 4096]) {
         if at < self.bytes.len() && page.len() <= self.bytes.len() - at {
             self.bytes[at..at + 4096].copy_from_slice(page);
@@ -86,7 +86,7 @@ pub fn entry(hash: u64, sequence: u64, offset: u32, len: u32) -> BlobEntryIndex 
     }
 }
 
-/// A page with these entries and this count, under a right checksum.
+/// Gives a page with the first 170 of these entries, at most, and with this count, under a right checksum.
 pub fn page(entries: &[BlobEntryIndex], count: u32) -> [u8; 4096] {
     let mut bytes = [0u8; 4096];
     bytes[8..12].copy_from_slice(&count.to_be_bytes());

@@ -48,7 +48,7 @@ fn entries_of(alloc: Global, words: &str) -> Result<Vec<BlobEntryIndex>> {
     Ok(entries)
 }
 
-// As many entries as an index has room for, of one record.
+// As many entries as an index has room for, all at the offset of one record.
 fn full_entries(alloc: Global, hash: u64) -> Result<Vec<BlobEntryIndex>> {
     let mut entries = Vec::new(alloc);
     for n in 0..170u64 {
@@ -66,8 +66,7 @@ fn magic_of(word: &str) -> [u8; 4] {
     }
 }
 
-// The record of a key of one byte and a text of one byte, under a right checksum: the key, and the hash and the sequence that it
-// says it has.
+// Makes the record of a key below 256 and a text of one byte, under a right checksum. Its header has this hash, sequence and magic.
 fn record(key: u8, hash: u64, sequence: u64, magic: &str, text: u8) -> [u8; 53] {
     let mut bytes = [0u8; 53];
     bytes[3] = 8;
@@ -121,9 +120,10 @@ fn put_part(alloc: Global, block: &mut [u8], part: &str) -> Result<()> {
     Ok(())
 }
 
-/// The bytes of a block by its description, the parts of which semicolons part; the rest is zeros. `index AT HASH SEQUENCE OFFSET
-/// LENGTH, ..` is an index of such entries, `full AT HASH` one of 170 from a hash on, `record AT KEY HASH SEQUENCE MAGIC TEXT` a
-/// record of 53 bytes, all under right checksums, and `flip AT` turns the lowest bit of a byte.
+/// Gives the bytes of a block by its description, whose parts are separated by `; `. Bytes that no part sets are zeros. `index AT HASH
+/// SEQUENCE OFFSET LENGTH, ..` is an index of such entries. `full AT HASH` is an index of 170 entries, for HASH and the next hashes.
+/// `record AT KEY HASH SEQUENCE MAGIC TEXT` is a record of 53 bytes. All these have right checksums. `flip AT` flips the lowest bit of a
+/// byte. Errors: `Memory`.
 pub fn image(alloc: Global, description: &str) -> Result<Vec<u8>> {
     let mut block = vec![in alloc; 0u8; BLOCK_SIZE]?;
     for part in description.split("; ") {

@@ -2,14 +2,14 @@
 use std::alloc::{AllocError, Allocator};
 use std::cell::Cell;
 
-/// Passes each call on, except the allocation that is counted down to.
+/// An allocator that passes each call on to another allocator, but refuses one allocation.
 pub struct Refusing<B: Allocator> {
     inner: B,
     left: Cell<u64>,
 }
 
 impl<B: Allocator> Refusing<B> {
-    /// Refuses the n-th allocation, from 1. With 0 it refuses none.
+    /// Gives an allocator that refuses the n-th allocation, counted from 1. With 0 it refuses none.
     pub fn new(inner: B, n: u64) -> Refusing<B> {
         Refusing {
             inner,
@@ -17,7 +17,7 @@ impl<B: Allocator> Refusing<B> {
         }
     }
 
-    /// Whether the allocation has come.
+    /// Whether that allocation was asked for. It is always true if `n` is 0.
     pub fn has_refused(&self) -> bool {
         self.left.get() == 0
     }

@@ -1,9 +1,9 @@
-//! What was answered, as one text: nothing that is noted gives an error, so that a test has one way out.
+//! What was answered, as one text. To note a part gives no error; only `text` gives one, so a test has one way out.
 use foyer_device_page::error::{Error, Result};
 use std::alloc::Global;
 use std::fmt::Write as _;
 
-/// A text, and whether memory was missing for a part of it.
+/// A text, and whether a part of it is missing.
 #[derive(Drop)]
 pub struct Said {
     text: String,
@@ -24,20 +24,20 @@ impl Said {
         }
     }
 
-    /// A number after a word.
+    /// Notes a word and a number.
     pub fn number(&mut self, word: &str, number: u64) {
         if write!(self.text, "{word}{number}").is_err() {
             self.is_short = true;
         }
     }
 
-    /// `yes` or `no` after a word.
+    /// Notes a word and `yes` or `no`.
     pub fn flag(&mut self, word: &str, is: bool) {
         self.word(word);
         self.word(if is { "yes" } else { "no" });
     }
 
-    /// A part that can't be noted.
+    /// Notes that a part is missing.
     pub fn miss(&mut self) {
         self.is_short = true;
     }

@@ -246,9 +246,9 @@ fn flushes<A: Allocator + Clone>(noted: &mut Noted, heap: &A, slices: &Slices) -
     flush(noted, heap, &mut ctx, slices, false)
 }
 
-// What was refused is as good as what never came: tried again, it gives what a run without a refusal gives.
+// A refused call leaves no trace: if it is made again, it gives what a run without a refusal gives.
 #[test]
-fn what_is_refused_may_come_again(rt: HostRuntime) -> std::result::Result<(), Fail> {
+fn a_refused_call_can_be_made_again(rt: HostRuntime) -> std::result::Result<(), Fail> {
     let alloc = rt.alloc();
     let slices = Slices {
         long: vec![in alloc; 7u8; 5000]?,

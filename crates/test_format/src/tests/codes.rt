@@ -122,7 +122,7 @@ fn a_flag_is_one_byte_of_two(rt: HostRuntime) -> std::result::Result<(), Fail> {
 }
 
 #[test]
-fn bytes_stand_behind_their_length(rt: HostRuntime) -> std::result::Result<(), Fail> {
+fn bytes_follow_their_length(rt: HostRuntime) -> std::result::Result<(), Fail> {
     let alloc = rt.alloc();
     let none: Vec<u8> = Vec::new(alloc);
     assert!(rt; is_encodable(alloc, &none, &[0, 0, 0, 0, 0, 0, 0, 0]));

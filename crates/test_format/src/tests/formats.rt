@@ -99,7 +99,7 @@ fn push_each(
     Ok(())
 }
 
-// Notes where the records stand, and how long they are.
+// Notes the place and the length of each record.
 fn say_infos(said: &mut Said, buffer: Buffer<Global>) {
     let (_, infos) = buffer.finish();
     for info in infos.as_slice() {

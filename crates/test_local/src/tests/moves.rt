@@ -148,7 +148,17 @@ fn describe<A: Allocator>(said: &mut Said, reply: &TextReply<A>) {
         Reply::Cleared => said.word("cleared"),
         Reply::Destroyed(None) => said.word("destroyed None"),
         Reply::Destroyed(Some(kind)) => say_kind(said, "destroyed ", *kind),
-        _ => said.word("-"),
+        Reply::Ignored(_)
+        | Reply::Queued(_)
+        | Reply::Dropped(_, _)
+        | Reply::Deleted(_)
+        | Reply::Throttled
+        | Reply::Empty
+        | Reply::Received(_)
+        | Reply::Began { .. }
+        | Reply::Failed
+        | Reply::Ended { .. }
+        | Reply::Destroying(_) => said.word("-"),
     }
 }
 
@@ -269,8 +279,8 @@ fn are_explained(words: &str, has_refused: bool) -> bool {
     })
 }
 
-// A run whose memory is refused ends, or a step comes back, and what follows it is handed back or passed over; memory that
-// is refused for what a reclaim reads ends its listing alone.
+// A run whose memory is refused ends, or a step is returned, and what follows it is returned or passed over. Memory that is refused for
+// what a reclaim reads ends its listing alone.
 #[test]
 fn each_allocation_that_is_refused_ends_the_run_or_its_step(
     rt: HostRuntime,

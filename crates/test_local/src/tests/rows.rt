@@ -82,28 +82,28 @@ fn say_wrong<R: Files<File = File> + AllocGlobal + Wait + Clone + Drop>(
 }
 
 #[test]
-fn each_input_is_answered_so(rt: HostRuntime) -> std::result::Result<(), Fail> {
+fn an_engine_answers_puts_gets_and_deletes(rt: HostRuntime) -> std::result::Result<(), Fail> {
     let wrong = wrong_rows(&rt, memory::PUT)?;
     assert!(rt; wrong.is_empty(), "{wrong}");
     Ok(())
 }
 
 #[test]
-fn records_are_written_again_so(rt: HostRuntime) -> std::result::Result<(), Fail> {
+fn a_reclaim_writes_admitted_records_again(rt: HostRuntime) -> std::result::Result<(), Fail> {
     let wrong = wrong_rows(&rt, memory::REINSERTED)?;
     assert!(rt; wrong.is_empty(), "{wrong}");
     Ok(())
 }
 
 #[test]
-fn each_call_that_fails_is_answered_so(rt: HostRuntime) -> std::result::Result<(), Fail> {
+fn failed_accesses_are_answered_by_their_causes(rt: HostRuntime) -> std::result::Result<(), Fail> {
     let wrong = wrong_rows(&rt, memory::FAILING)?;
     assert!(rt; wrong.is_empty(), "{wrong}");
     Ok(())
 }
 
 #[test]
-fn deletes_are_kept_and_forgotten_so(rt: HostRuntime) -> std::result::Result<(), Fail> {
+fn a_failed_append_forgets_its_deletes_alone(rt: HostRuntime) -> std::result::Result<(), Fail> {
     let wrong = wrong_rows(&rt, memory::DELETED)?;
     assert!(rt; wrong.is_empty(), "{wrong}");
     Ok(())
@@ -119,42 +119,44 @@ fn an_earlier_life_leaves_nothing_behind_a_later_one(
 }
 
 #[test]
-fn moves_are_answered_so(rt: HostRuntime) -> std::result::Result<(), Fail> {
+fn moves_do_only_what_is_due(rt: HostRuntime) -> std::result::Result<(), Fail> {
     let wrong = wrong_rows(&rt, memory::MOVED)?;
     assert!(rt; wrong.is_empty(), "{wrong}");
     Ok(())
 }
 
 #[test]
-fn directories_are_opened_again_so(rt: HostRuntime) -> std::result::Result<(), Fail> {
+fn a_directory_opened_again_has_what_was_written(rt: HostRuntime) -> std::result::Result<(), Fail> {
     let wrong = wrong_rows(&rt, directories::REOPENED)?;
     assert!(rt; wrong.is_empty(), "{wrong}");
     Ok(())
 }
 
 #[test]
-fn directories_are_made_and_filled_so(rt: HostRuntime) -> std::result::Result<(), Fail> {
+fn a_directory_is_made_with_a_file_for_each_block(
+    rt: HostRuntime,
+) -> std::result::Result<(), Fail> {
     let wrong = wrong_rows(&rt, directories::MADE)?;
     assert!(rt; wrong.is_empty(), "{wrong}");
     Ok(())
 }
 
 #[test]
-fn a_log_of_deletes_lasts_so(rt: HostRuntime) -> std::result::Result<(), Fail> {
+fn a_log_of_deletes_outlasts_a_reopening(rt: HostRuntime) -> std::result::Result<(), Fail> {
     let wrong = wrong_rows(&rt, directories::LOGGED)?;
     assert!(rt; wrong.is_empty(), "{wrong}");
     Ok(())
 }
 
 #[test]
-fn accesses_are_counted_and_limited_so(rt: HostRuntime) -> std::result::Result<(), Fail> {
+fn accesses_are_counted_and_limited(rt: HostRuntime) -> std::result::Result<(), Fail> {
     let wrong = wrong_rows(&rt, directories::LIMITED)?;
     assert!(rt; wrong.is_empty(), "{wrong}");
     Ok(())
 }
 
 #[test]
-fn directories_are_listed_so(rt: HostRuntime) -> std::result::Result<(), Fail> {
+fn a_filled_directory_is_listed_and_stays(rt: HostRuntime) -> std::result::Result<(), Fail> {
     let wrong = wrong_rows(&rt, directories::LISTED)?;
     assert!(rt; wrong.is_empty(), "{wrong}");
     Ok(())

@@ -4,6 +4,7 @@ use foyer_block_manager::block::manager::{
     BlockId, BlockManager, BlockSet, BlockState, BlockStatistics, ManagerConfig, ReclaimingBlock,
 };
 use foyer_device_page::error::Result;
+use foyer_testing::rows::first_difference;
 use foyer_testing::said::Said;
 use rand_pcg::Pcg32;
 use std::alloc::Global;
@@ -212,6 +213,6 @@ fifo < init 3 2, hand 0, invalidate 3 7, clear, set 3, filling 3, filling 2, han
 #[test]
 fn blocks_go_through_the_sets(rt: HostRuntime) -> std::result::Result<(), Fail> {
     let answers = rows_of(rt.alloc(), ROWS)?;
-    assert!(rt; answers.as_str() == ROWS, "{answers}");
+    assert_eq!(rt; first_difference(answers.as_str(), ROWS), None);
     Ok(())
 }

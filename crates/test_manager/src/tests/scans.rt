@@ -3,6 +3,7 @@ use foyer_block_scan::block::scanner::{BlockScanner, EntryInfo};
 use foyer_device_page::error::Result;
 use foyer_format_blob::BlobEntryIndex;
 use foyer_format_checksum::Checksummer;
+use foyer_testing::rows::first_difference;
 use foyer_testing::said::Said;
 use std::alloc::Global;
 use std::test::Fail;
@@ -171,8 +172,8 @@ two full blobs fill a block
 ";
 
 #[test]
-fn each_scan_lists_so(rt: HostRuntime) -> std::result::Result<(), Fail> {
+fn a_scan_lists_the_blobs_of_a_block(rt: HostRuntime) -> std::result::Result<(), Fail> {
     let answers = rows_of(rt.alloc(), ROWS)?;
-    assert!(rt; answers.as_str() == ROWS, "{answers}");
+    assert_eq!(rt; first_difference(answers.as_str(), ROWS), None);
     Ok(())
 }

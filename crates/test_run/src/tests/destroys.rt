@@ -10,6 +10,7 @@ use foyer_format_record::serde::IdentityHashBuilder;
 use foyer_io_blocks::memory::MemoryDisk;
 use foyer_io_disk::disk::Disk;
 use foyer_storage_local::engine::{LocalEngine, NoLog};
+use foyer_testing::rows::first_difference;
 use std::alloc::{Allocator, Global};
 use std::test::Fail;
 
@@ -36,11 +37,11 @@ destroy: destroying
 ";
 
 #[test]
-fn each_clean_comes_once_and_the_first_fault_is_named(
+fn each_clean_is_issued_once_and_the_first_fault_is_named(
     rt: HostRuntime,
 ) -> std::result::Result<(), Fail> {
     let run = run_of(rt.alloc(), small(2), BRIEF, SCRIPT)?;
-    assert!(rt; run.answers.as_str() == SCRIPT, "{}", run.answers);
+    assert_eq!(rt; first_difference(run.answers.as_str(), SCRIPT), None);
     Ok(())
 }
 

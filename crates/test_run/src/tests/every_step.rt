@@ -67,8 +67,8 @@ look 1: read
 load: entry c
 ";
 
-// The same of pieces that are dropped, over a record of their hash and over none, and of one that is handed back over a record
-// of its hash. No piece is taken while one byte is queued.
+// The same of pieces that are dropped, with and without a record of their hash. Then a piece is returned while its hash has a record. No
+// piece is taken while one byte is queued.
 const DROPS: &str = "put 1 a: queued 1
 receive: received
 begin: began 1 0
@@ -194,7 +194,7 @@ fn expected_step(call: u64, at: usize, wanted: &str) -> &str {
     }
 }
 
-// The same of the script with drops. What was dropped or handed back stays missed, whatever fails.
+// The same of the script with drops. What was dropped or returned stays missed, whatever fails.
 fn expected_drop(call: u64, at: usize, wanted: &str) -> &str {
     match (call, at) {
         (1, 4) => "failed",

@@ -3,6 +3,7 @@ use foyer_core_flusher::filled::Filled;
 use foyer_device_page::error::Result;
 use foyer_device_page::io::bytes::IoSliceMut;
 use foyer_format_buffer::{Batch, SplitCtx};
+use foyer_testing::rows::first_difference;
 use foyer_testing::said::Said;
 use std::alloc::Global;
 use std::test::Fail;
@@ -102,6 +103,6 @@ fn answers(alloc: Global) -> Result<String> {
 #[test]
 fn each_push_takes_these_pages(rt: HostRuntime) -> std::result::Result<(), Fail> {
     let answers = answers(rt.alloc())?;
-    assert!(rt; answers.as_str() == ANSWERS, "{answers}");
+    assert_eq!(rt; first_difference(answers.as_str(), ANSWERS), None);
     Ok(())
 }

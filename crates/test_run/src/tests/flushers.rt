@@ -4,6 +4,7 @@ use crate::tests::runs::{Ran, run_of};
 use foyer_core_steps::settings::Settings;
 use foyer_device_page::error::{Error, Result};
 use foyer_testing::refusing::Refusing;
+use foyer_testing::rows::first_difference;
 use std::alloc::Global;
 use std::test::Fail;
 
@@ -116,8 +117,8 @@ const LISTED: &str = "0 2 1 4096 3124
 #[test]
 fn two_flushers_write_over_five_blocks(rt: HostRuntime) -> std::result::Result<(), Fail> {
     let run = run_of(rt.alloc(), two(5), FULL, SCRIPT)?;
-    assert!(rt; run.answers.as_str() == SCRIPT, "{}", run.answers);
-    assert!(rt; run.listed.as_str() == LISTED, "{}", run.listed);
+    assert_eq!(rt; first_difference(run.answers.as_str(), SCRIPT), None);
+    assert_eq!(rt; first_difference(run.listed.as_str(), LISTED), None);
     Ok(())
 }
 
@@ -163,7 +164,7 @@ fn is_failed(line: &str) -> bool {
     line.starts_with("wrote ") && reply_in(line) == "failed"
 }
 
-// Says whether the answers are those of the script except for one fault, which is named where it came.
+// Says whether the answers are those of the script except for one fault, which is named in the line where it occurred.
 fn name_one_fault(answers: &str) -> bool {
     let mut failed = None;
     let mut is_late = false;

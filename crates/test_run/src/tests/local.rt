@@ -14,6 +14,7 @@ use foyer_format_record::serde::{Age, Code, HashBuilder, Sink};
 use foyer_io_blocks::memory::MemoryDisk;
 use foyer_storage_local::engine::{LocalEngine, MarkLog, NoLog};
 use foyer_storage_local::load::{Enqueued, Load};
+use foyer_testing::rows::first_difference;
 use foyer_testing::said::Said;
 use std::alloc::{Allocator, Global};
 use std::test::Fail;
@@ -274,6 +275,6 @@ fn answers_of(alloc: Global) -> Result<String> {
 #[test]
 fn an_engine_on_one_thread_answers_keys(rt: HostRuntime) -> std::result::Result<(), Fail> {
     let answers = answers_of(rt.alloc())?;
-    assert!(rt; answers.as_str() == WANTED, "{answers}");
+    assert_eq!(rt; first_difference(answers.as_str(), WANTED), None);
     Ok(())
 }

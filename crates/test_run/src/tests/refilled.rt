@@ -1,11 +1,12 @@
 //! A load whose block is reclaimed and filled again before it ends.
 use crate::tests::driver::{FULL, small};
 use crate::tests::runs::run_of;
+use foyer_testing::rows::first_difference;
 use std::test::Fail;
 
-// The bytes of the record of key 30 are a text as well, in UTF-8. So the text of key 3 may hold them, and they stand in the
-// block's new filling at the very offset where the record stood. The load of key 30 ends with the page that was read before,
-// and with the one that stands there now: both begin with its record, and its block is in another filling.
+// The bytes of the record of key 30 are a text as well, in UTF-8. So the text of key 3 may hold them. They are in the block's new filling
+// at the very offset at which the record was. The load of key 30 ends with the page that was read before, and with the page that is there
+// now. Both pages begin with its record, and its block is in another filling.
 const REFILLED: &str = "put 1 3072: queued 1
 put 30 3072: queued 2
 receive 0: received
@@ -42,6 +43,6 @@ load 1: entry 3 of another text
 #[test]
 fn an_old_record_within_a_new_one_is_a_miss(rt: HostRuntime) -> std::result::Result<(), Fail> {
     let run = run_of(rt.alloc(), small(1), FULL, REFILLED)?;
-    assert!(rt; run.answers.as_str() == REFILLED, "{}", run.answers);
+    assert_eq!(rt; first_difference(run.answers.as_str(), REFILLED), None);
     Ok(())
 }

@@ -107,7 +107,10 @@ pub fn word_of<A: Allocator>(reply: &TestReply<A>) -> &'static str {
         Reply::Destroying(_) => "destroying",
         Reply::Cleared => "cleared",
         Reply::Destroyed(_) => "destroyed",
-        _ => "another",
+        Reply::Picked { .. } => "picked",
+        Reply::Scan { .. } => "scan",
+        Reply::Listed { .. } => "listed",
+        Reply::Clean(_) => "clean",
     }
 }
 

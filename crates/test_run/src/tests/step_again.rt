@@ -25,7 +25,7 @@ const NO_PIECE: &str =
 const NO_READ: &str =
     "queued 1\nreceived\nbegan 1 0\nwrite 0\nnext\nnext\ncommitted 1\nended 1 /\nread\nno step Memory\ndeleted 2\nno\n";
 
-// A record, a piece that is dropped over it, and one that is handed back over another record.
+// A record, a piece that is dropped while its hash has this record, and a piece that is returned while its hash has another record.
 const DROPS: &str =
     "put 1 1\nreceive\nbegin\nblock\nwrote\nwrote\nwrote\nend\nput 2 1\nput 1 2\nput 3 1\nlook 1\nreceive\nreceive\nreceive\nbegin\nblock\nwrote\nwrote\nwrote\nend\nget 2\nput 2 12300\nreceive\nreceive\nlook 2\nbegin\nblock\nend\nask 1\nask 2\nask 3\n";
 
@@ -113,7 +113,7 @@ fn first_wrong(alloc: Global, life: Life) -> Result<(u64, u64)> {
 // a refused allocation of the index at the end of a block fails its batch, and only a refused allocation of the driver itself
 // leaves a step out.
 #[test]
-fn a_refused_step_may_come_again(rt: HostRuntime) -> std::result::Result<(), Fail> {
+fn a_refused_step_can_be_made_again(rt: HostRuntime) -> std::result::Result<(), Fail> {
     let (wrong, count) = first_wrong(rt.alloc(), Life::Plain)?;
     assert!(rt; wrong == 0, "allocation {wrong}");
     assert!(rt; count > 20);
@@ -122,7 +122,7 @@ fn a_refused_step_may_come_again(rt: HostRuntime) -> std::result::Result<(), Fai
 
 // A refused receive leaves the piece in the queue, and the next one takes it.
 #[test]
-fn a_refused_drop_may_come_again(rt: HostRuntime) -> std::result::Result<(), Fail> {
+fn a_refused_drop_can_be_made_again(rt: HostRuntime) -> std::result::Result<(), Fail> {
     let (wrong, count) = first_wrong(rt.alloc(), Life::Drops)?;
     assert!(rt; wrong == 0, "allocation {wrong}");
     assert!(rt; count > 20);

@@ -6,6 +6,7 @@ use foyer_core_run::opened::run_texts;
 use foyer_core_steps::reply::Reply;
 use foyer_core_steps::settings::Settings;
 use foyer_device_page::error::{Error, Result};
+use foyer_testing::rows::first_difference;
 use foyer_testing::said::Said;
 use std::alloc::{Allocator, Global};
 use std::test::Fail;
@@ -20,7 +21,7 @@ type TestMove<A> = Move<u64, Value<A>, TestAge, A>;
 //
 // Three records fill a block of four pages: the fourth is indexed with the second block, and not with the first. Behind the records of a
 // block that isn't full a page of zeros is written, ahead of the index. So such a block has three writes. If the write to the only block
-// fails, no other is clean, and the flusher waits. An older text isn't answered in the place of a piece that was dropped or handed back.
+// fails, no other is clean, and the flusher waits. An older text isn't answered in the place of a piece that was dropped or returned.
 const CASES: &str = "a delete hides an older put
 1 0 plain: put 7 a, delete 7, receive 0, receive 0, begin 0, block 0, wrote 0, wrote 0, wrote 0, end 0, look 7, ask 7
 = queued, deleted, received, received, began, write, next, next, committed, ended, miss, no
@@ -256,9 +257,9 @@ fn answered(alloc: Global, cases: &str) -> Result<String> {
 }
 
 #[test]
-fn each_script_is_answered_so(rt: HostRuntime) -> std::result::Result<(), Fail> {
+fn scripts_of_steps_get_their_replies(rt: HostRuntime) -> std::result::Result<(), Fail> {
     let answers = answered(rt.alloc(), CASES)?;
-    assert!(rt; answers.as_str() == CASES, "{answers}");
+    assert_eq!(rt; first_difference(answers.as_str(), CASES), None);
     Ok(())
 }
 
@@ -282,8 +283,8 @@ call 8: queued, received, began, write, next, next, committed, ended, read, entr
 call 9: queued, received, began, write, next, next, committed, ended, read, entry a, queued, received, began, write, next, next, committed, ended, read, entry b, read, refused
 ";
 
-// A piece that is dropped over a record of its hash, and then one that is handed back over a record of its own. The calls of
-// the disk are of each flush the data, the zeros behind them and the index, and a load of the second.
+// A piece that is dropped while its hash has a record, and then a piece that is returned while its hash has a record. The calls of the disk
+// are the data, the zeros after them and the index of each flush, and a load of the second record.
 const DROPS: &str =
     "put 1 a, receive 0, begin 0, block 0, wrote 0, wrote 0, wrote 0, end 0, put 2 b, put 1 c, look 1, ask 1, receive 0, receive 0, begin 0, block 0, wrote 0, wrote 0, wrote 0, end 0, look 2, read 0, long 2 12300, ask 2, receive 0, ask 2, look 2, begin 0, block 0, end 0, look 1, look 2";
 
@@ -320,7 +321,7 @@ fn lives(alloc: Global, script: &str, word: &str, last: u64) -> Result<String> {
 #[test]
 fn each_failed_call_of_the_disk_is_reported(rt: HostRuntime) -> std::result::Result<(), Fail> {
     let answers = lives(rt.alloc(), LIFE, "plain", 9)?;
-    assert!(rt; answers.as_str() == LIVES, "{answers}");
+    assert_eq!(rt; first_difference(answers.as_str(), LIVES), None);
     Ok(())
 }
 
@@ -329,6 +330,6 @@ fn a_dropped_piece_stays_dropped_where_a_call_of_the_disk_fails(
     rt: HostRuntime,
 ) -> std::result::Result<(), Fail> {
     let answers = lives(rt.alloc(), DROPS, "unqueued", 7)?;
-    assert!(rt; answers.as_str() == DROPPED, "{answers}");
+    assert_eq!(rt; first_difference(answers.as_str(), DROPPED), None);
     Ok(())
 }

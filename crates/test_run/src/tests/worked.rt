@@ -7,6 +7,7 @@ use crate::tests::replies::text_of;
 use crate::tests::runs::run_of;
 use foyer_core_steps::settings::Settings;
 use foyer_device_page::error::Result;
+use foyer_testing::rows::first_difference;
 use foyer_testing::said::Said;
 use std::alloc::Global;
 use std::test::Fail;
@@ -81,8 +82,8 @@ const THREE_LISTED: &str = "0 1 1 4096 3124
 #[test]
 fn a_flush_goes_on_where_the_one_before_ended(rt: HostRuntime) -> std::result::Result<(), Fail> {
     let run = run_of(rt.alloc(), small(4), FULL, THREE)?;
-    assert!(rt; run.answers.as_str() == THREE, "{}", run.answers);
-    assert!(rt; run.listed.as_str() == THREE_LISTED, "{}", run.listed);
+    assert_eq!(rt; first_difference(run.answers.as_str(), THREE), None);
+    assert_eq!(rt; first_difference(run.listed.as_str(), THREE_LISTED), None);
     Ok(())
 }
 
@@ -134,8 +135,8 @@ fn a_block_whose_write_failed_is_not_written_again(
         ..FULL
     };
     let run = run_of(rt.alloc(), small(4), way, FAILED)?;
-    assert!(rt; run.answers.as_str() == FAILED, "{}", run.answers);
-    assert!(rt; run.listed.as_str() == FAILED_LISTED, "{}", run.listed);
+    assert_eq!(rt; first_difference(run.answers.as_str(), FAILED), None);
+    assert_eq!(rt; first_difference(run.listed.as_str(), FAILED_LISTED), None);
     Ok(())
 }
 
@@ -182,7 +183,7 @@ fn the_first_record_and_its_index_are_these_bytes(
     rt: HostRuntime,
 ) -> std::result::Result<(), Fail> {
     let (answers, is_there) = first_put(rt.alloc())?;
-    assert!(rt; answers.as_str() == FIRST, "{answers}");
+    assert_eq!(rt; first_difference(answers.as_str(), FIRST), None);
     assert!(rt; is_there);
     Ok(())
 }
@@ -356,9 +357,9 @@ fn a_full_index_begins_a_blob_behind_it_where_a_record_fits(
     rt: HostRuntime,
 ) -> std::result::Result<(), Fail> {
     let (short, _) = listed_behind(rt.alloc(), two_of(172), SHORT)?;
-    assert!(rt; short.as_str() == SHORT, "{short}");
+    assert_eq!(rt; first_difference(short.as_str(), SHORT), None);
     let (long, _) = listed_behind(rt.alloc(), two_of(173), LONG)?;
-    assert!(rt; long.as_str() == LONG, "{long}");
+    assert_eq!(rt; first_difference(long.as_str(), LONG), None);
     Ok(())
 }
 
@@ -392,7 +393,7 @@ fn a_batch_of_many_records_fills_blobs_of_170(rt: HostRuntime) -> std::result::R
         ..Settings::new(3, 342 * 4096)
     };
     let (answers, listed) = listed_behind(rt.alloc(), settings, LARGE)?;
-    assert!(rt; answers.as_str() == LARGE, "{answers}");
+    assert_eq!(rt; first_difference(answers.as_str(), LARGE), None);
     assert!(rt; are_in_turn(listed.as_slice()) && text_of(rt.alloc(), 850, 3072)?.len() == 3072);
     Ok(())
 }

@@ -110,7 +110,7 @@ fn say_device(said: &mut Said, device: DeviceSummary) {
     said.number(" in ", device.partitions as u64);
 }
 
-// What a put of an estimated size would be told; a wait in milliseconds.
+// The answer that a put of an estimated size would get; a wait in milliseconds.
 fn say_verdict(said: &mut Said, verdict: StorageFilterResult) {
     match verdict {
         StorageFilterResult::Admit => said.word("admit"),

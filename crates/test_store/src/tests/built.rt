@@ -196,8 +196,8 @@ where
     answers_of_built::<L, R, _, _>(rt, alloc, blanks, builder, asked)
 }
 
-/// Of one with an engine over any device, any I/O engines, pickers, conditions and gate: what is known of the whole engine is shown
-/// with these as they come, and not again for those of these tests.
+/// The answers of a store whose engine has any device, I/O engines, pickers, conditions and gate. What is known of the whole engine is
+/// proved for whatever types these are, and not again for those of these tests.
 pub(crate) fn answers_over<L, R, I, D, S, C, G>(
     rt: R,
     alloc: Global,

@@ -37,7 +37,7 @@ per 1024, opens none < fill 1 5000, wait, counts written, get 1, counts read | q
 ";
 
 #[test]
-fn a_store_counts_so(rt: HostRuntime) -> std::result::Result<(), Fail> {
+fn a_store_counts_blocks_bytes_and_calls(rt: HostRuntime) -> std::result::Result<(), Fail> {
     let wrong = wrong_rows(rt, rt.alloc(), ROWS)?;
     assert!(rt; wrong.is_empty(), "{wrong}");
     Ok(())

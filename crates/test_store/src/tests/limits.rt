@@ -2,9 +2,10 @@
 use crate::tests::rows::wrong_rows;
 use std::test::Fail;
 
-// A quota is 0 when a store is built, falls by what is read or written, and rises by its limit in each second, to a second's at most; who
-// asks while it is below 0 has to wait. A put's batch of one small record writes a page of data, one of zeros behind it, and one of index; an
-// opening reads the first index of each of four blocks; `judge` is what a put would be told, and how many milliseconds it would have to wait.
+// A quota is 0 when a store is built. It falls by what is read or written, and rises by its limit in each second, to a second's at most.
+// Whoever asks while the quota is below 0 has to wait. A put's batch of one small record writes a page of data, one of zeros after it, and
+// one of index. An opening reads the first index of each of four blocks. `judge` is the answer that a put would get, and how many
+// milliseconds it would have to wait.
 const WRITES: &str =
     "so many bytes are written in a second: a record, the zeros behind it and its index are paid by three, puts before that are held back, and their keys deleted
 write-bytes 4096 < judge 1, put 1 a, wait, judge 2, put 2 b, at 2999, put 1 c, get 1, at 3000, judge 2, put 2 b, wait, get 2, get 1 | admit, queued, ok, throttled 3000, deleted, at 2999, deleted, miss, at 3000, admit, queued, ok, entry b, miss
@@ -67,14 +68,14 @@ reads 1, per 5000, opens none < fill 1 5000, wait, get 1, at 1999, get 1, at 200
 ";
 
 #[test]
-fn writes_are_limited_so(rt: HostRuntime) -> std::result::Result<(), Fail> {
+fn a_write_limit_holds_puts_back(rt: HostRuntime) -> std::result::Result<(), Fail> {
     let wrong = wrong_rows(rt, rt.alloc(), WRITES)?;
     assert!(rt; wrong.is_empty(), "{wrong}");
     Ok(())
 }
 
 #[test]
-fn reads_are_limited_so(rt: HostRuntime) -> std::result::Result<(), Fail> {
+fn a_read_limit_throttles_loads(rt: HostRuntime) -> std::result::Result<(), Fail> {
     let wrong = wrong_rows(rt, rt.alloc(), READS)?;
     assert!(rt; wrong.is_empty(), "{wrong}");
     Ok(())

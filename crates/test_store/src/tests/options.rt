@@ -89,7 +89,7 @@ device combined, log, clean 0 < device, put 1 a, wait, del 1, wait, counts writt
 device combined, write-bytes 4096 < put 1 a, wait, judge 2 | queued, ok, throttled 3000
 ";
 
-// The cores of a key are told apart by bits of its hash: of two cores the second has 1 and 3, of four the second 1, the fourth 3.
+// Bits of a key's hash choose its core. Of two cores the second has keys 1 and 3. Of four cores the second has key 1, and the fourth key 3.
 const CORES: &str =
     "a store that is opened over one core, two or four answers as one that is built, and its counts are sums
 cores 1 < put 1 a, put 2 b, put 3 c, put 4 d, wait, get 1, get 2, get 3, get 4, get 5, has 4, has 5, del 1, del 2, get 1, get 2, get 3, tally, counts puts, device | queued, queued, queued, queued, ok, entry a, entry b, entry c, entry d, miss, yes, no, ok, ok, miss, miss, entry c, tally 4 0 2 5 3 5 0, queued 4 ignored 0 dropped 0 rejected 0 returned 0 deletes 2, has 65536 gave 65536 in 4
@@ -132,21 +132,21 @@ cores 4, blocks 2, flushers 3 < enabled | refused Config
 ";
 
 #[test]
-fn sizes_change_answers_so(rt: HostRuntime) -> std::result::Result<(), Fail> {
+fn answers_depend_on_the_sizes(rt: HostRuntime) -> std::result::Result<(), Fail> {
     let wrong = wrong_rows(rt, rt.alloc(), SIZES)?;
     assert!(rt; wrong.is_empty(), "{wrong}");
     Ok(())
 }
 
 #[test]
-fn other_options_change_answers_so(rt: HostRuntime) -> std::result::Result<(), Fail> {
+fn answers_depend_on_the_other_options(rt: HostRuntime) -> std::result::Result<(), Fail> {
     let wrong = wrong_rows(rt, rt.alloc(), REST)?;
     assert!(rt; wrong.is_empty(), "{wrong}");
     Ok(())
 }
 
 #[test]
-fn devices_keep_blocks_so(rt: HostRuntime) -> std::result::Result<(), Fail> {
+fn devices_give_their_bytes_as_blocks(rt: HostRuntime) -> std::result::Result<(), Fail> {
     let wrong = wrong_rows(rt, rt.alloc(), DEVICES)?;
     assert!(rt; wrong.is_empty(), "{wrong}");
     Ok(())

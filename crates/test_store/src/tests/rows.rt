@@ -136,7 +136,7 @@ bad words give the usage: two words, and one with a blank
 disk :memory:, 16384 < put 1 a | errors usage: foyerdisk DIR CAPACITY BLOCK, status 2
 disk :memory:, 16384, 1  < put 1 a | errors usage: foyerdisk DIR CAPACITY BLOCK, status 2
 the version is printed, and no line is answered; with another word it is a bad word
-disk --version < put 1 a | foyerdisk 0.1.0, rattle-kit-13b, status 0
+disk --version < put 1 a | foyerdisk 0.1.0, rattle-kit-13f, status 0
 disk --version, 16384 < put 1 a | errors usage: foyerdisk DIR CAPACITY BLOCK, status 2
 bad lines are answered and passed, and the last one has no end
 unended :memory:, 16384, 16384 < put 1, , get 18446744073709551616, put 1 , wait, get 01, get +1, get , wait , GET 1, put 18446744073709551615 z, wait, get 18446744073709551615 | bad line, bad line, bad line, queued, ok, entry , bad line, bad line, bad line, bad line, queued, ok, entry z, status 1
@@ -351,35 +351,35 @@ pub(crate) fn wrong_rows<
 }
 
 #[test]
-fn calls_are_answered_so(rt: HostRuntime) -> std::result::Result<(), Fail> {
+fn a_store_answers_calls(rt: HostRuntime) -> std::result::Result<(), Fail> {
     let wrong = wrong_rows(rt, rt.alloc(), CALLS)?;
     assert!(rt; wrong.is_empty(), "{wrong}");
     Ok(())
 }
 
 #[test]
-fn calls_are_answered_so_while_a_thread_is_held(rt: HostRuntime) -> std::result::Result<(), Fail> {
+fn a_store_answers_calls_while_a_thread_is_held(rt: HostRuntime) -> std::result::Result<(), Fail> {
     let wrong = wrong_rows(rt, rt.alloc(), HELD)?;
     assert!(rt; wrong.is_empty(), "{wrong}");
     Ok(())
 }
 
 #[test]
-fn stores_are_built_again_so(rt: HostRuntime) -> std::result::Result<(), Fail> {
+fn a_store_built_again_finds_what_was_written(rt: HostRuntime) -> std::result::Result<(), Fail> {
     let wrong = wrong_rows(rt, rt.alloc(), BUILT_AGAIN)?;
     assert!(rt; wrong.is_empty(), "{wrong}");
     Ok(())
 }
 
 #[test]
-fn forged_blocks_are_answered_so(rt: HostRuntime) -> std::result::Result<(), Fail> {
+fn a_store_over_forged_blocks_answers_each_call(rt: HostRuntime) -> std::result::Result<(), Fail> {
     let wrong = wrong_rows(rt, rt.alloc(), FORGED)?;
     assert!(rt; wrong.is_empty(), "{wrong}");
     Ok(())
 }
 
 #[test]
-fn lines_are_answered_so(rt: HostRuntime) -> std::result::Result<(), Fail> {
+fn the_program_answers_lines(rt: HostRuntime) -> std::result::Result<(), Fail> {
     let wrong = wrong_rows(rt, rt.alloc(), PROGRAMS)?;
     assert!(rt; wrong.is_empty(), "{wrong}");
     Ok(())

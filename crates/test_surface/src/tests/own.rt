@@ -120,7 +120,9 @@ fn planned(sizes: EngineSizes, free: usize) -> Option<u32> {
 }
 
 #[test]
-fn and_one_that_keeps_nothing(rt: HostRuntime) -> std::result::Result<(), Fail> {
+fn a_store_over_an_engine_that_keeps_nothing_ignores_puts(
+    rt: HostRuntime,
+) -> std::result::Result<(), Fail> {
     let blanks = Blanks::new(1 << 32);
     assert!(rt; is_ignored::<Brand, HostRuntime>(rt, rt.alloc(), blanks)?);
     Ok(())

@@ -40,7 +40,7 @@ impl Slow {
         self.listed = 0;
     }
 
-    // Gives how many blocks the records take, and where each of them stands.
+    // Gives how many blocks the records take, and the place of each record.
     fn place(
         &mut self,
         alloc: Global,
@@ -113,7 +113,7 @@ fn list(alloc: Global, number: u64) -> Result<Vec<(u64, usize), Global>> {
     Ok(records)
 }
 
-// Says whether 500 lists, one behind another, stand where they should.
+// Says whether the records of 500 lists, one after another, lie where they should.
 fn agree(alloc: Global, ctx: &mut SplitCtx<Global>, slow: &mut Slow, first: u64) -> Result<bool>
     requires room { ctx.old.sizes.index + 12288 ≤ ctx.old.sizes.block }
 {
@@ -149,7 +149,7 @@ fn agree_in(alloc: Global, block_size: usize, first: u64) -> Result<bool>
 }
 
 #[test]
-fn random_lists_stand_where_they_should(rt: HostRuntime) -> std::result::Result<(), Fail> {
+fn random_lists_are_laid_out_as_defined(rt: HostRuntime) -> std::result::Result<(), Fail> {
     let alloc = rt.alloc();
     assert!(rt; agree_in(alloc, 4 * 4096, 0)?);
     assert!(rt; agree_in(alloc, 9 * 4096, 500)?);

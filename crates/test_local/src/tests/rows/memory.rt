@@ -158,8 +158,8 @@ a record that is written again stands behind the new one: three fill the one blo
 moves blocks 1, admits 60 < put 1 a long text, receive, begin, block, wrote, wrote, wrote, end, put 2 b, receive, begin, block, wrote, wrote, wrote, end, put 3 c, receive, begin, block, wrote, wrote, end, put 4 d, receive, begin, block, block, reclaim, read 0, read 0, read 0, read 0, forget 0, reclaimed 0, idle, block, wrote, wrote, wrote, end, receive, begin, block, wrote, wrote, wrote, end, look 4, look 1, look 2, look 3 | -, -, -, write 0, next, next, committed 1, -, -, -, -, write 0, next, next, committed 1, -, -, -, -, write 0, next, committed 1, -, -, -, -, write 0, no block, picked 0, scan 0 4096 4096, listed, clean 0, done, true, write 0, next, next, committed 1, -, -, -, write 0, next, next, committed 1, -, at 4096, at 8192, miss, miss, zeros no
 ";
 
-// What a life left stays in its blocks behind their first pages, which a destroy cleans. The index of a block lists 170 records, so 170 puts
-// fill it. A scan goes on behind them, where the earlier life's second index of this block stood. The 84 records of that index have greater
+// What a life left stays in its blocks after their first pages, which a destroy cleans. The index of a block lists 170 records, so 170 puts
+// fill it. A scan goes on after them, where the earlier life's second index of this block was. The 84 records of that index have greater
 // sequences than the later life's.
 pub const LIVES: &str =
     "nothing that an earlier life left in a block is found behind what a later one wrote there: each key's last put is answered, or a miss

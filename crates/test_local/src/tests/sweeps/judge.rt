@@ -32,8 +32,8 @@ pub struct Judge {
     is_stopped: bool,
 }
 
-/// Makes the judge before the first life. It is told whether the queue has no bytes, whether blocks are reclaimed, and whether all accesses
-/// fail from the fault on.
+/// Makes the judge before the first life. The parameters say whether the queue has no bytes, whether blocks are reclaimed, and whether all
+/// accesses fail from the fault on.
 pub fn judge_of(is_narrow: bool, is_reclaimed: bool, is_stopped: bool) -> Judge {
     Judge {
         table: [NOTHING_KNOWN; KEYS],

@@ -75,7 +75,7 @@ pub fn after_put(known: Known, line: u64) -> Known {
     }
 }
 
-/// Of a text that no block holds: the older one is shown until it is received.
+/// Of a text that no block holds: a get answers the older text until this one is received.
 pub fn after_great(known: Known, line: u64) -> Known {
     Known {
         great: line,

@@ -6,6 +6,7 @@ use foyer_device_partition::io::device::{
     FsDeviceBuilder, MemoryDeviceBuilder, NoopDeviceBuilder, PartialDeviceBuilder, Partition,
     Throttle,
 };
+use foyer_testing::rows::first_difference;
 use foyer_testing::said::Said;
 use std::alloc::Global;
 use std::fs;
@@ -282,7 +283,7 @@ noop 0 < new 8192, at 0 9 | 0:8192 0+0
 #[test]
 fn each_device_makes_its_partitions(rt: HostRuntime) -> std::result::Result<(), Fail> {
     let answers = rows_of(&rt, ROWS)?;
-    assert!(rt; answers.as_str() == ROWS, "{answers}");
+    assert_eq!(rt; first_difference(answers.as_str(), ROWS), None);
     Ok(())
 }
 

@@ -8,6 +8,7 @@ use foyer_io_engine::io::engine::{
     FaultIoEngine, IoEngine, IoEngineBuildContext, IoEngineConfig, IoHandle, MemoryIoEngine,
     NoopIoEngineConfig, PsyncIoEngine, PsyncIoEngineConfig, SharedMemoryIoEngineConfig,
 };
+use foyer_testing::rows::first_difference;
 use foyer_testing::said::Said;
 use futures::executor::block_on;
 use std::alloc::Global;
@@ -315,7 +316,7 @@ torn dir 16384 torn: 8192 8192 < write 0 0 6, failures, bytes torn/foyer-storage
 #[test]
 fn each_engine_reads_and_writes(rt: HostRuntime) -> std::result::Result<(), Fail> {
     let answers = rows_of(&rt, ROWS)?;
-    assert!(rt; answers.as_str() == ROWS, "{answers}");
+    assert_eq!(rt; first_difference(answers.as_str(), ROWS), None);
     Ok(())
 }
 

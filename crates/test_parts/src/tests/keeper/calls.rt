@@ -6,7 +6,7 @@ use std::sync::Wait;
 use std::test::Fail;
 
 // Whether the words of a row are answered so; a name above them always is.
-fn is_answered_so(rt: &impl Wait, alloc: Global, row: &str) -> Result<bool> {
+fn is_answered_as_wanted(rt: &impl Wait, alloc: Global, row: &str) -> Result<bool> {
     match row.split_once(" | ") {
         Some((script, wanted)) => {
             let said = answers(rt, alloc, script)?;
@@ -32,9 +32,9 @@ p71a d0 g71 | +da
 ";
 
 #[test]
-fn each_row_is_answered_so(rt: HostRuntime) -> std::result::Result<(), Fail> {
+fn a_keeper_finds_a_piece_until_its_release(rt: HostRuntime) -> std::result::Result<(), Fail> {
     for row in ROWS.lines() {
-        assert!(rt; is_answered_so(&rt, rt.alloc(), row)?, "{row}");
+        assert!(rt; is_answered_as_wanted(&rt, rt.alloc(), row)?, "{row}");
     }
     Ok(())
 }

@@ -24,7 +24,7 @@ fn distinct(start: u64, count: u64, pages: u64) -> u64 {
 }
 
 #[test]
-fn as_many_pages_are_written_as_marks_come_into(rt: HostRuntime) -> Result<(), Fail> {
+fn an_append_writes_each_page_that_gets_a_mark(rt: HostRuntime) -> Result<(), Fail> {
     for start in [1, 2, 255, 256, 257, 700, 767] {
         for count in [0, 1, 2, 255, 256, 257, 511, 513, 767, 768, 769, 2000] {
             let wanted = distinct(start, count, 3);

@@ -6,6 +6,7 @@ use foyer_device_page::error::{Error, Result};
 use foyer_device_page::io::bytes::Raw;
 use foyer_device_partition::io::device::MemoryPartition;
 use foyer_io_engine::io::engine::MemoryIoEngine;
+use foyer_testing::rows::first_difference;
 use foyer_testing::said::Said;
 use std::alloc::Global;
 use std::rt::Files;
@@ -160,8 +161,8 @@ a read that fails at the wrap: what was written stands, and the log goes on behi
 ";
 
 #[test]
-fn the_log_answers_so(rt: HostRuntime) -> std::result::Result<(), Fail> {
+fn the_log_keeps_the_marks_that_it_could_append(rt: HostRuntime) -> std::result::Result<(), Fail> {
     let answers = rows_of(&rt, rt.alloc(), ROWS)?;
-    assert!(rt; answers.as_str() == ROWS, "{answers}");
+    assert_eq!(rt; first_difference(answers.as_str(), ROWS), None);
     Ok(())
 }

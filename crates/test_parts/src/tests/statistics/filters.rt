@@ -9,6 +9,7 @@ use foyer_policy_filter::{
     AdmitAll, AnyCondition, BuiltInCondition, EstimatedSize, IoThrottle, RejectAll, StorageFilter,
     StorageFilterCondition, StorageFilterResult,
 };
+use foyer_testing::rows::first_difference;
 use foyer_testing::said::Said;
 use std::alloc::Global;
 use std::ops::Bound;
@@ -198,9 +199,9 @@ any: throttle, boxed reject < 4 9 | reject?
 ";
 
 #[test]
-fn filters_answer_so(rt: HostRuntime) -> std::result::Result<(), Fail> {
+fn a_filter_adds_up_what_its_conditions_answer(rt: HostRuntime) -> std::result::Result<(), Fail> {
     let answers = rows_of(rt.alloc(), ROWS)?;
-    assert!(rt; answers.as_str() == ROWS, "{answers}");
+    assert_eq!(rt; first_difference(answers.as_str(), ROWS), None);
     Ok(())
 }
 

@@ -89,7 +89,11 @@ fn draw_marks(alloc: Global, generator: &mut Pcg32) -> Result<Vec<Tombstone>, Fa
 }
 
 // Says whether a hash is found at the place where the slow reader found it.
-fn is_found_so(recovered: &Recovered<Global>, expected: &slow::Expected, hash: u64) -> bool {
+fn is_found_as_expected(
+    recovered: &Recovered<Global>,
+    expected: &slow::Expected,
+    hash: u64,
+) -> bool {
     match (
         recovered.index.get(hash),
         slow::winner(&expected.found, hash),
@@ -105,9 +109,9 @@ fn is_found_so(recovered: &Recovered<Global>, expected: &slow::Expected, hash: u
     }
 }
 
-fn are_found_so(recovered: &Recovered<Global>, expected: &slow::Expected) -> bool {
+fn are_found_as_expected(recovered: &Recovered<Global>, expected: &slow::Expected) -> bool {
     for hash in 0..6u64 {
-        if !is_found_so(recovered, expected, hash) {
+        if !is_found_as_expected(recovered, expected, hash) {
             return false;
         }
     }
@@ -127,7 +131,7 @@ fn compare(
     let expected = slow::open_slowly(alloc, disk, BLOCKS, mode, marks)?;
     let runner = runner(mode, BLOCKS);
     match recover_by(&alloc, disk, &runner, workers, workers == 3, marks) {
-        Ok(recovered) => Ok((None, are_found_so(&recovered, &expected))),
+        Ok(recovered) => Ok((None, are_found_as_expected(&recovered, &expected))),
         Err(error) => Ok((Some(error), expected.refused == Some(error))),
     }
 }

@@ -6,6 +6,7 @@ use foyer_device_page::error::{Error, Result};
 use foyer_testing::forged::{BLOCK_SIZE, ForgedDisk, entry, page};
 use foyer_testing::images::image;
 use foyer_testing::refusing::Refusing;
+use foyer_testing::rows::first_difference;
 use foyer_testing::said::Said;
 use std::alloc::Global;
 use std::test::Fail;
@@ -229,9 +230,9 @@ strict / index 0; index 8192 9 6 4096 53 < clean, at 9 | [0] none
 ";
 
 #[test]
-fn devices_are_recovered_so(rt: HostRuntime) -> std::result::Result<(), Fail> {
+fn an_opening_finds_what_the_blocks_list(rt: HostRuntime) -> std::result::Result<(), Fail> {
     let answers = rows_of(rt.alloc(), ROWS)?;
-    assert!(rt; answers.as_str() == ROWS, "{answers}");
+    assert_eq!(rt; first_difference(answers.as_str(), ROWS), None);
     Ok(())
 }
 

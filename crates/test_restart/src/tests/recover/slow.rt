@@ -7,7 +7,7 @@ use foyer_testing::forged::{BLOCK_SIZE, ForgedDisk, INDEX_SIZE};
 use std::alloc::Global;
 use std::test::Fail;
 
-/// What was found of a hash: where its record stands, or that it is a mark.
+/// What was found for a hash: the place of its record, or that it is a mark.
 #[derive(Clone, Copy, Debug, PartialEq, Eq)]
 pub(crate) struct Found {
     pub(crate) hash: u64,

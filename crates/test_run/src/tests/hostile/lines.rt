@@ -56,7 +56,7 @@ pub struct Driver<A: Allocator + Clone> {
     part: Option<Part>,
     // The line whose write is reported as failed.
     fails_at: usize,
-    // The word of the line that was refused and came again.
+    // The word of the line that was refused and made again.
     refused: String,
 }
 
@@ -427,7 +427,10 @@ fn say_reply<A: Allocator>(said: &mut Said, reply: &Answered<A>) {
         Reply::Destroyed(fault) => say_gone(said, fault),
         Reply::Done => said.word("done"),
         Reply::Empty => said.word("empty"),
-        _ => said.word("another"),
+        Reply::Ignored(_) => said.word("ignored"),
+        Reply::Dropped(_, _) => said.word("dropped"),
+        Reply::Throttled => said.word("throttled"),
+        Reply::NoBlock => said.word("no block"),
     }
 }
 

@@ -11,7 +11,7 @@ fn waits(rt: &impl Wait, bell: &Bell, came: &AtomicBool, seen: u64) -> bool {
     bell.wait_past(rt, seen)
 }
 
-// Whether both threads came. Then they had time to begin their wait.
+// Whether both threads have arrived. Then they had time to begin their wait.
 fn have_come(one: &AtomicBool, two: &AtomicBool) -> bool {
     let came = is_raised(one) && is_raised(two);
     for _ in 0..1000 {

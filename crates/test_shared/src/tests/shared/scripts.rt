@@ -150,7 +150,7 @@ fn a_session_has_its_last_two_steps_with_their_replies(
 }
 
 #[test]
-fn a_step_that_comes_back_is_noted_too(rt: HostRuntime) -> std::result::Result<(), Fail> {
+fn a_returned_step_is_noted_too(rt: HostRuntime) -> std::result::Result<(), Fail> {
     let blanks = Blanks::new(1 << 32);
     assert!(rt;
         has_wanted::<Brand, HostRuntime, KeepsNotes>(&rt, rt.alloc(), Case::ComesBack, blanks)?
