@@ -9,7 +9,7 @@ use memchr::memchr;
 /// One line of the input.
 #[derive(Clone, Copy, Debug, PartialEq, Eq)]
 pub enum Command<'a> {
-    /// `put KEY TEXT`: the text is all that follows the space, and may be empty.
+    /// `put KEY TEXT`: the text is all that follows the space after the key, and may be empty.
     Put { key: u64, text: &'a str },
     /// `get KEY`.
     Get { key: u64 },
@@ -46,7 +46,7 @@ fn four_digits(four: &[u8; 4]) -> Option<u64>
     Some(high * 100 + low)
 }
 
-/// A number of decimal digits alone, at most `u64::MAX`.
+/// Reads a number of decimal digits alone, at most `u64::MAX`. Gives `None` for all other bytes.
 pub fn number(digits: &[u8]) -> Option<u64>
     ensures { MatchOption result ((n : ℕ) → ¬ (IsNumber digits.now n)) (IsNumber digits.now) }
 {

@@ -25,16 +25,16 @@ pub fn print_fault<W: Write>(output: &mut W, kind: ErrorKind) -> io::Result<()>
     output.write_all(b"\n")
 }
 
-/// What of a directory couldn't be opened, and why.
+/// What couldn't be opened, and why.
 #[derive(Clone, Copy, Debug, PartialEq, Eq)]
 pub struct Failed {
     /// Why.
     pub kind: ErrorKind,
-    /// The directory, the log of deletes, a file of a block, or the engine over them.
+    /// `the directory`, `the store` or `the clock`.
     pub what: &'static str,
 }
 
-/// Says on a line of its own what of a directory couldn't be opened.
+/// Prints one line: `foyerdisk`, the directory, what couldn't be opened, and the kind of the error. An error is the writer's.
 pub fn report<W: Write>(errors: &mut W, directory: &str, failed: &Failed) -> io::Result<()> {
     errors.write_all(b"foyerdisk: ")?;
     errors.write_all(directory.as_bytes())?;

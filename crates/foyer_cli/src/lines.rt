@@ -6,7 +6,7 @@ use std::alloc::{AllocError, Allocator};
 use std::io;
 use std::io::Read;
 
-// The bytes that the buffer begins with.
+// The buffer's first size in bytes.
 const FIRST_CAPACITY: usize = 64 * 1024;
 
 /// The place of a line in the buffer, without the line's end.
@@ -23,11 +23,11 @@ pub enum Filled {
     More,
     /// The input has ended.
     End,
-    /// Memory doesn't hold the line that has begun: all of it, up to its end, is passed over.
+    /// The buffer can't grow to hold the line that has begun. The line is passed over, up to its end.
     TooLong,
 }
 
-/// A reader's lines. A line is lent from the buffer, which grows only if one line is longer than the buffer.
+/// A reader's lines. A line is borrowed from the buffer. The buffer grows only if one line fills it.
 pub struct Lines<R: Read + Drop, A: Allocator> {
     input: R,
     buffer: Vec<u8, A>,
@@ -35,7 +35,7 @@ pub struct Lines<R: Read + Drop, A: Allocator> {
     start: usize,
     searched: usize,
     end: usize,
-    // Whether what comes next is the rest of a line that was too long.
+    // Whether the next bytes are the rest of a line that was too long.
     is_skipping: bool,
     ghost in_order: { start ≤ searched },
     ghost searched_in: { searched ≤ end },
@@ -58,7 +58,7 @@ impl<R: Read + Drop, A: Allocator> Drop for Lines<R, A> {
 }
 
 impl<R: Read + Drop, A: Allocator> Lines<R, A> {
-    /// The lines of a reader, of which nothing is read yet. The buffer has 64 KiB, or the call is refused.
+    /// Gives the lines of a reader. Nothing is read yet. Errors: `AllocError` if there is no memory for a buffer of 64 KiB.
     pub fn new(alloc: A, input: R) -> Result<Lines<R, A>, AllocError> {
         Ok(Lines {
             input,
@@ -70,7 +70,7 @@ impl<R: Read + Drop, A: Allocator> Lines<R, A> {
         })
     }
 
-    /// The next line that was read whole already.
+    /// Gives the next line that the buffer has up to its end, without reading. `None` if there is no such line.
     pub fn next_whole(&mut self) -> Option<Line> {
         if self.is_skipping {
             self.skip_rest();
@@ -93,7 +93,7 @@ impl<R: Read + Drop, A: Allocator> Lines<R, A> {
         }
     }
 
-    /// What stands behind the last line's end, once the input has ended.
+    /// After the input has ended, gives the bytes after the last line's end as a line. `None` if there are none.
     pub fn last(&mut self) -> Option<Line> {
         let line = Line {
             start: self.start,
@@ -108,7 +108,7 @@ impl<R: Read + Drop, A: Allocator> Lines<R, A> {
         }
     }
 
-    /// The bytes of a line that was found last.
+    /// Gives the bytes of a line. Once `fill` was called again, it may give other bytes, or none.
     pub fn bytes(&self, line: Line) -> &[u8] {
         if line.start <= line.end && line.end <= self.buffer.len() {
             &self.buffer.as_slice()[line.start..line.end]
@@ -117,8 +117,9 @@ impl<R: Read + Drop, A: Allocator> Lines<R, A> {
         }
     }
 
-    /// Reads more, and reads again if a read was interrupted. Another error of a read is the call's error. If a line fills the buffer, the
-    /// buffer grows first. If it can't grow, nothing is read, and the line is passed over.
+    /// Reads more, and reads again if a read was interrupted. Another error of a read is the call's error. First take all lines by
+    /// `next_whole`. If the line that has begun fills the buffer, the buffer grows. If it can't grow, nothing is read, and the line is
+    /// passed over, with all lines not taken yet.
     pub fn fill(&mut self) -> io::Result<Filled> {
         if self.start > 0 {
             self.move_to_front();

@@ -16,13 +16,13 @@ use std::io::Write;
 /// The text that is printed if the arguments are bad.
 pub const USAGE: &str = "usage: foyerdisk DIR CAPACITY BLOCK\n";
 
-/// Printed behind a program's name if its one word is `--version`: the library's version, and the toolchain that proved it.
-pub const VERSION: &str = " 0.1.0, rattle-kit-13b\n";
+/// Printed after a program's name if its only argument is `--version`: the library's version, and the toolchain that proved it.
+pub const VERSION: &str = " 0.1.0, rattle-kit-13f\n";
 
-/// The directory that stands for memory.
+/// The word that is given in place of a directory to keep the blocks in memory.
 pub const MEMORY: &str = ":memory:";
 
-/// The seed of the generator that chooses a block if no picker picks one. With it each run chooses alike.
+/// The seed of the generator that chooses a block if no picker picks one. It is the same in each run.
 pub const GENERATOR_SEED: u64 = 0;
 
 /// `DIR CAPACITY BLOCK`, the numbers in bytes.
@@ -58,8 +58,8 @@ pub fn print_version<W: Write + Drop>(mut output: W, program: &str) -> u8
     }
 }
 
-/// Gives how many blocks of so many bytes a device of so many bytes has room for. If the device has a log of deletes, the log's pages are
-/// left out. If a block has less than a page, there is room for none.
+/// Gives how many blocks a device of `capacity` bytes has room for. Both sizes are rounded down to whole pages. If the device has a log
+/// of deletes, the log's pages are left out. If `block_size` is less than a page, there is room for no block.
 pub fn blocks_in(capacity: usize, block_size: usize, tombstone_log: bool) -> usize
     ensures bare { tombstone_log ≡ false → 4096 ≤ block_size → result ≡ capacity / 4096 / (block_size / 4096) }
     ensures logged { tombstone_log ≡ true → 4096 ≤ block_size
@@ -93,15 +93,16 @@ impl<'a> Options<'a> {
         })
     }
 
-    /// Whether the blocks are to be in memory.
+    /// Whether the directory is `:memory:`, so that the blocks are in memory.
     pub fn is_memory(&self) -> bool
         ensures { IsTrue result ↔ ((self.now.directory).now ≡ codes ":memory:") }
     {
         self.directory == MEMORY
     }
 
-    /// Gives the sizes that an engine is opened with: the block rounded up to whole pages, and as many blocks as the capacity holds. Errors:
-    /// `Config` if these don't go together.
+    /// Gives the settings for an engine: the block size rounded up to whole pages, as many blocks as the capacity holds, and defaults for
+    /// all else. Errors: `Config` unless a block has more than 4096 and at most 2^32 bytes, and there are at least 1 and at most 2^32 - 1
+    /// blocks.
     pub fn settings(&self) -> Result<Settings>
         ensures sizes { IfOk result (AreAsked self.now) }
         ensures valid { IfOk result AreValid }
