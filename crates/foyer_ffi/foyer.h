@@ -9,7 +9,7 @@
 extern "C" {
 #endif
 
-/* XXH64 and XXH32 of len bytes, with start value 0. The pointer is never null, not even for no bytes. */
+/* XXH64 and XXH32 of len bytes, with start value 0. The pointer must not be null, not even for no bytes. */
 uint64_t foyer_ffi_xxh64(const uint8_t *bytes, size_t len);
 uint32_t foyer_ffi_xxh32(const uint8_t *bytes, size_t len);
 

@@ -1,4 +1,4 @@
-//! Which keys were asked for since their records were written, and a filter that has these written again.
+//! Marks of keys that were asked for, and a filter that has the records of marked keys written again.
 ghost use Rattle.std.specs.Prelude.{◌≡◌, ◌<◌, IfOk, length};
 
 use foyer_device_page::error::Result;
@@ -8,7 +8,7 @@ use std::alloc::Global;
 use std::sync::Arc;
 use std::sync::atomic::{AtomicBool, Ordering};
 
-/// A mark for each key that was asked for. Two keys share a mark if their hashes have the same remainder modulo the number of marks.
+/// Marks for keys that were asked for. Two keys share a mark if their hashes have the same remainder modulo the number of marks.
 #[derive(Drop)]
 pub struct AskedKeys {
     marks: Vec<AtomicBool>,
@@ -36,13 +36,13 @@ impl AskedKeys {
         self.mark_of(hash).store(true, Ordering::Relaxed);
     }
 
-    /// Whether a key was asked for, which isn't marked from then on.
+    /// Gives whether a key is marked as asked for, and removes its mark.
     pub fn take(&self, hash: u64) -> bool {
         self.mark_of(hash).swap(false, Ordering::Relaxed)
     }
 }
 
-/// Lets in what was asked for, and rejects all else.
+/// Admits a record if its key is marked as asked for, and removes the mark. Rejects all others.
 #[derive(Drop)]
 pub struct AskedAgain {
     pub asked: Arc<AskedKeys, Global>,

@@ -101,8 +101,9 @@ where
 }
 
 /// Runs a bench by the words `DIR CAPACITY BLOCK THREADS VALUE_BYTES SECONDS [NAME=VALUE..]`. The given number of threads call one store
-/// for the given time. Then the call prints what they counted. It gives the exit status: 0, or 2 for bad words. The status is 1 if a
-/// call was refused or answered wrongly, the store couldn't be built, or the output failed. `--version` alone prints the version.
+/// for the given time, or make the given number of calls. Then it prints what they counted, and gives the exit status: 0, or 2 for bad
+/// words. The status is 1 if a call was refused or answered wrongly, the output failed, or the store couldn't be built, filled, timed or
+/// closed. `--version` alone prints the version. The ledgers must fit `L` and have 2^32 parts each (`CoreBlanks::new`).
 pub fn bench<L, T, B, W, E>(
     rt: T,
     alloc: Global,

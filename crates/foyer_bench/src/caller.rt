@@ -26,10 +26,10 @@ use std::rt::Clock;
 use std::sync::Wait;
 use std::time::{Duration, Instant};
 
-/// What a store of the bench is.
+/// The store that the bench calls.
 pub type Values<N> = Store<N, u64, Vec<u8>, NoProperties, IdentityHashBuilder>;
 
-/// A piece of a key's value under the key, which is its own hash.
+/// Makes the piece of a key and its value. The key is its own hash.
 pub fn piece_of(
     alloc: Global,
     key: u64,
@@ -62,7 +62,7 @@ fn hit_or_wrong(is_right: bool) -> GetAnswer
     }
 }
 
-/// How a get of a key was answered.
+/// How a get of a key was answered. A get that was throttled counts as a fault.
 pub fn get_answer(key: u64, outcome: &Result<Load<u64, Vec<u8>, NoProperties, Global>>) -> GetAnswer
     ensures { IsGetAnswer key outcome.now result }
 {
@@ -74,7 +74,7 @@ pub fn get_answer(key: u64, outcome: &Result<Load<u64, Vec<u8>, NoProperties, Gl
     }
 }
 
-// The nanoseconds from one moment to another; the greatest number of 64 bits stands for all above.
+// The nanoseconds from one moment to another, at most 2^64 - 1.
 fn nanos_between(begin: Instant, end: Instant) -> u64
     ensures { result ≡ min (instant_nanos end - instant_nanos begin) (2 ^ 64 - 1) }
 {
@@ -82,7 +82,7 @@ fn nanos_between(begin: Instant, end: Instant) -> u64
     u64::try_from(nanos).unwrap_or(u64::MAX)
 }
 
-/// What the threads of a run share beside the store.
+/// What the threads of a run share, apart from the store.
 #[derive(Drop)]
 pub struct Work<'a> {
     pub plan: &'a Plan,
@@ -103,7 +103,7 @@ pub struct Caller {
 }
 
 impl Caller {
-    /// Of a seed and a thread's number: each number draws calls of its own. Memory.
+    /// Gives a caller that draws its calls by a seed and its thread's number. Errors: `Memory`.
     pub fn new(alloc: Global, seed: u64, number: u64) -> Result<Caller>
         ensures { IfOk result (λ caller. (caller.answers ≡ no_answers) × HasNothing caller.puts × HasNothing caller.gets) }
     {
@@ -115,7 +115,7 @@ impl Caller {
         })
     }
 
-    // Puts a key: the moment of the call's end. The piece is made before the call begins.
+    // Puts a key. Gives the moment of the call's end. The piece is made before the call begins.
     fn put<S: Drop, N: Engine<S, u64, Vec<u8>, NoProperties>, R: Wait + Clock>(
         &mut self,
         rt: &R,
@@ -137,7 +137,7 @@ impl Caller {
         Ok(end)
     }
 
-    // Gets a key: the moment of the call's end, and how it was answered.
+    // Gets a key. Gives the moment of the call's end, and how it was answered.
     fn get<S: Drop, N: Engine<S, u64, Vec<u8>, NoProperties>, R: Wait + Clock>(
         &mut self,
         rt: &R,
@@ -154,7 +154,7 @@ impl Caller {
         Ok((end, answer))
     }
 
-    // Makes one call: the moment of its end.
+    // Makes one call. Gives the moment of its end.
     fn call<S: Drop, N: Engine<S, u64, Vec<u8>, NoProperties>, R: Wait + Clock>(
         &mut self,
         rt: &R,
@@ -178,7 +178,8 @@ impl Caller {
         Ok(end)
     }
 
-    /// Makes the plan's calls, until their number or time is over. What fails is the clock.
+    /// Makes as many calls as the plan says. If the plan gives no number, it makes calls until the plan's seconds are over. An error is
+    /// the clock's.
     pub fn run<S: Drop, N: Engine<S, u64, Vec<u8>, NoProperties>, R: Wait + Clock>(
         &mut self,
         rt: &R,

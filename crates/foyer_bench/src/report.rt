@@ -15,9 +15,9 @@ pub struct Report {
     pub gets: Histogram,
     /// How long the store's opening took, in nanoseconds.
     pub opening_nanos: u64,
-    /// The nanoseconds from the first call to the last one's end.
+    /// The nanoseconds from just before the threads started until they had ended.
     pub nanos: u64,
-    /// The steps of all sessions, in the order of the kinds.
+    /// The steps of the callers' sessions, in the order of the kinds. Steps of the store's own threads aren't counted.
     pub steps: [u64; 8],
 }
 
@@ -72,14 +72,14 @@ fn print_rates<W: Write>(output: &mut W, report: &Report) -> io::Result<()> {
     print_steps(output, &report.steps)
 }
 
-// The counts that no schedule changes.
+// The counts. No schedule changes them, unless a get that misses puts its key.
 fn print_counts<W: Write>(output: &mut W, report: &Report) -> io::Result<()> {
     let (puts, gets) = (report.answers.puts, report.answers.gets);
     write!(output, "puts={puts} gets={gets}\n")
 }
 
 /// Prints what was counted. If the plan has a number of calls, it prints the counts alone. Else it prints the opening's time, rates,
-/// latencies and steps. Then it prints whether each call was answered well, and answers that too.
+/// latencies and steps. Then it prints whether each call was answered well. It gives that, too. An error is the writer's.
 pub fn print<W: Write>(output: &mut W, plan: &Plan, report: &Report) -> io::Result<bool> {
     if plan.calls.is_some() {
         print_counts(output, report)?;

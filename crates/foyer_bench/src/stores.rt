@@ -35,7 +35,7 @@ use std::time::Instant;
 // Into how many shards the keeper is divided.
 const KEEPER_SHARDS: usize = 64;
 
-// Makes the marks that gets leave, if the plan has records written again.
+// Makes the marks that gets set, if the plan has records written again.
 fn asked_of(alloc: Global, plan: &Plan) -> Result<Option<Arc<AskedKeys, Global>>> {
     if plan.reinsert == 0 {
         return Ok(None);
@@ -59,7 +59,7 @@ fn filter_of(
     Ok(Some(filter))
 }
 
-// What a core lies in.
+// The device and the I/O engines of a core.
 #[derive(Drop)]
 struct Place<D: Drop, I: Drop> {
     device: D,
@@ -185,7 +185,8 @@ where
     bench_with::<L, T, I, D>(rt, alloc, blanks, builders, plan, &zipf, bytes, marks)
 }
 
-/// As `bench`, over memory: each core has an equal part of the capacity.
+/// Runs a plan over a store in memory, and gives what was counted. Each core has an equal part of the capacity. The plan must have the
+/// bounds that `Plan::parse` ensures. The ledgers must fit `L` and have 2^32 parts each.
 pub fn bench_memory<L, T>(
     rt: T,
     alloc: Global,
@@ -212,7 +213,7 @@ where
     bench_over::<L, T, _, _>(rt, alloc, blanks, places, block_size, plan)
 }
 
-/// As `bench`, over the files of a directory: each of several cores has a directory in it, and an equal part of the capacity.
+/// As `bench_memory`, over the files of a directory. If there are several cores, each has a directory in it.
 pub fn bench_directory<L, T>(
     rt: T,
     alloc: Global,

@@ -19,7 +19,7 @@ use std::rt::Clock;
 use std::sync::Wait;
 use std::time::Instant;
 
-// Puts a value, and waits if too much is queued.
+// Puts a value. If it isn't taken, waits and puts it once more.
 fn fill_one<S: Drop, N: Engine<S, u64, Vec<u8>, NoProperties>>(
     rt: &impl Wait,
     alloc: Global,
@@ -60,7 +60,7 @@ fn nanos_since(rt: &impl Clock, begin: Instant) -> Result<u64> {
     Ok(u64::try_from(nanos).unwrap_or(u64::MAX))
 }
 
-/// A caller for each of the plan's threads. Memory.
+/// Makes a caller for each of the plan's threads. Errors: `Memory`.
 pub fn callers_of(alloc: Global, plan: &Plan) -> Result<Vec<Caller>> {
     let mut callers = Vec::new(alloc);
     for number in 0..plan.threads {

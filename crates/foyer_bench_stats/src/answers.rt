@@ -5,9 +5,9 @@
 pub enum PutAnswer {
     /// It was queued.
     Queued,
-    /// It wasn't taken.
+    /// The put wasn't taken.
     Dropped,
-    /// It was refused.
+    /// The call was refused.
     Fault,
 }
 
@@ -20,11 +20,11 @@ pub enum GetAnswer {
     Wrong,
     /// By none.
     Miss,
-    /// It was refused.
+    /// The call was refused.
     Fault,
 }
 
-/// How many calls were made, and how they were answered; 2^64 - 1 stands for all numbers above.
+/// How many calls were made, and how they were answered. A count that reaches 2^64 - 1 stays there.
 #[derive(Clone, Copy, Debug, PartialEq, Eq)]
 pub struct Answers {
     pub puts: u64,
@@ -42,7 +42,7 @@ impl Answers {
     ghost use Rattle.std.specs.Prelude.{◌≡◌, ◌+◌, ◌<◌, ◌^◌, ◌↔◌, IsTrue};
     ghost use Rattle.foyer_bench_stats.specs.AnswerCounts.{both, got, no_answers, put, IsWell};
 
-    /// Of no calls.
+    /// Gives the counts of no calls.
     pub fn new() -> Answers
         ensures { result ≡ no_answers }
     {
@@ -59,7 +59,7 @@ impl Answers {
         }
     }
 
-    /// One put more.
+    /// Counts a put.
     pub fn count_put(&mut self, answer: PutAnswer)
         ensures { self.new ≡ put answer self.old }
     {
@@ -71,7 +71,7 @@ impl Answers {
         }
     }
 
-    /// One get more.
+    /// Counts a get.
     pub fn count_get(&mut self, answer: GetAnswer)
         ensures { self.new ≡ got answer self.old }
     {
@@ -84,7 +84,7 @@ impl Answers {
         }
     }
 
-    /// Of both.
+    /// Gives the sum of each count.
     pub fn plus(self, other: Answers) -> Answers
         ensures { result ≡ both self other }
     {
@@ -101,7 +101,7 @@ impl Answers {
         }
     }
 
-    /// Whether each call was answered once, and none wrongly or by a fault.
+    /// Whether no answer was wrong or a fault, and the counts of the other answers add up to those of the calls.
     pub fn are_well(&self) -> bool
         ensures { IsTrue result ↔ IsWell self.now }
     {

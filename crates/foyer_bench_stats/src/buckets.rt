@@ -5,7 +5,7 @@ ghost use Rattle.foyer_bench_stats.specs.Buckets.{IsBucketOf, lowest_of, highest
 /// How many buckets there are.
 pub const BUCKETS: usize = 3776;
 
-/// The bucket of a number: its width is at most a 64th of what it begins with.
+/// Gives the bucket of a number. The bucket is one number wide, or at most a 64th of its least number.
 pub fn bucket_of(value: u64) -> usize
     ensures { IsBucketOf value result }
 {
@@ -16,7 +16,7 @@ pub fn bucket_of(value: u64) -> usize
     shift as usize * 64 + (value >> shift) as usize
 }
 
-/// The least number of a bucket.
+/// Gives the least number of a bucket. The bucket must be below `BUCKETS`.
 pub fn lowest(bucket: usize) -> u64
     requires { bucket < 3776 }
     ensures { result ≡ lowest_of bucket }
@@ -25,7 +25,7 @@ pub fn lowest(bucket: usize) -> u64
     ((bucket - 64 * shift) as u64) << shift
 }
 
-/// The greatest number of a bucket.
+/// Gives the greatest number of a bucket. The bucket must be below `BUCKETS`.
 pub fn highest(bucket: usize) -> u64
     requires { bucket < 3776 }
     ensures { result ≡ highest_of bucket }

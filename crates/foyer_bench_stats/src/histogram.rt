@@ -26,7 +26,7 @@ impl Model for Histogram {
 }
 
 impl Histogram {
-    /// One that has noted nothing.
+    /// Gives a histogram without numbers. Errors: `AllocError`.
     pub fn new(alloc: Global) -> Result<Histogram, AllocError>
         ensures { IfOk result HasNothing }
     {
@@ -89,8 +89,8 @@ impl Histogram {
         self.greatest
     }
 
-    /// Finds the least bucket up to which the given thousandths of all numbers lie. Gives the bucket's end, or the greatest number if that is
-    /// less. Gives None if nothing was noted.
+    /// Finds the least bucket up to which at least the given thousandths of all numbers lie. Gives the bucket's end, or the greatest
+    /// number if that is less. Gives None if nothing was noted. `thousandths` must be from 1 to 1000.
     pub fn percentile(&self, thousandths: u64) -> Option<u64>
         requires { (0 < thousandths) × (thousandths ≤ 1000) }
         ensures { MatchOption result (sum self.now.counts ≡ 0) (IsPercentile self.now thousandths) }

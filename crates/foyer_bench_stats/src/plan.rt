@@ -12,9 +12,9 @@ pub struct Plan {
     pub threads: u64,
     /// The bytes of a value.
     pub value_bytes: u64,
-    /// How long they call.
+    /// For how many seconds they call.
     pub seconds: u64,
-    /// How many calls each makes, in place of the seconds.
+    /// How many calls each thread makes, in place of the seconds.
     pub calls: Option<u64>,
     /// How many keys there are.
     pub keys: u64,
@@ -22,19 +22,19 @@ pub struct Plan {
     pub skew: u64,
     /// How many calls of a hundred are gets.
     pub gets: u64,
-    /// What the calls are drawn from.
+    /// The seed of the random numbers that the calls are drawn from.
     pub seed: u64,
-    /// How many keys are put before, the most frequent ones.
+    /// How many of the most frequent keys are put before the calls begin.
     pub fill: u64,
-    /// How many I/O engines the store's loads read through.
+    /// Through how many I/O engines of each core loads read.
     pub engines: u64,
-    /// How many flushers the store has.
+    /// How many flushers each core has.
     pub flushers: u64,
-    /// How many workers read the blocks when the store is opened.
+    /// How many threads of each core may read the blocks when the store is opened.
     pub recoverers: u64,
     /// How many cores the store has: 1, 2 or 4.
     pub cores: u64,
-    /// How often a put that finds too much queued looks again.
+    /// If a put finds too much queued, how often it looks again.
     pub patience: u64,
     /// This is 1 if a get that misses puts its key, else 0.
     pub through: u64,

@@ -31,9 +31,9 @@ pub enum Refusal {
     ValueBytes,
     /// The third is no number from 1 to 2^30.
     Seconds,
-    /// A further word is no setting's name and an equals sign.
+    /// A further word doesn't begin with a setting's name and an equals sign.
     Unknown,
-    /// A setting's number is none that it may have.
+    /// The text after a setting's equals sign is no number that the setting may have.
     Number(Setting),
 }
 
@@ -125,7 +125,7 @@ impl Setting {
         }
     }
 
-    // Whether it may have a number between these.
+    // Whether the setting may have this number, if the number is from the least to the greatest.
     fn takes(self, number: u64) -> bool
         ensures { result ≡ takes self number }
     {

@@ -4,14 +4,15 @@ ghost use Rattle.foyer_bench_stats.specs.Values.{start_of, IsValueOf};
 
 use std::alloc::{AllocError, Global};
 
-/// The key of a rank: ranks that are drawn often lie apart.
+/// Gives the key of a rank: the rank times an odd number, modulo 2^64. So the keys of neighbouring ranks are far apart.
 pub fn key_of(rank: usize) -> u64
     ensures { result ≡ rank * 0x9E37_79B9_7F4A_7C15 % 2 ^ 64 }
 {
     (rank as u64).wrapping_mul(0x9E37_79B9_7F4A_7C15)
 }
 
-/// The value of a key: the key's bytes, as far as the filler is long, and then the filler's.
+/// Gives the value of a key, as long as the filler: the key's eight bytes, the lowest first, and then the filler from its ninth byte on.
+/// A shorter value has only as many bytes of the key. Errors: `AllocError`.
 pub fn value_of(alloc: Global, key: u64, filler: &[u8]) -> Result<Vec<u8>, AllocError>
     ensures { IfOk result (λ value. value.items ≡ start_of key filler.now ++ drop (min (length filler.now) 8) filler.now) }
 {
@@ -22,7 +23,7 @@ pub fn value_of(alloc: Global, key: u64, filler: &[u8]) -> Result<Vec<u8>, Alloc
     Ok(value)
 }
 
-/// Whether a value begins with its key's bytes, as far as it is long.
+/// Whether a value begins with the key's eight bytes. If it has fewer bytes, they must be the first of those.
 pub fn is_of(key: u64, value: &[u8]) -> bool
     ensures { IsTrue result ↔ IsValueOf key value.now }
 {
@@ -30,7 +31,7 @@ pub fn is_of(key: u64, value: &[u8]) -> bool
     value[..length] == key.to_le_bytes()[..length]
 }
 
-/// How many calls a second, rounded down: of no time as of a nanosecond.
+/// Gives how many calls a second these are, rounded down, and at most 2^64 - 1. 0 nanoseconds count as 1.
 pub fn rate(calls: u64, nanos: u64) -> u64
     ensures { result ≡ min (calls * 1000000000 / max nanos 1) (2 ^ 64 - 1) }
 {

@@ -1,4 +1,5 @@
-//! How often a rank is drawn, as a whole number: 2^36 for the first, and for the n-th that over n to the power of the skew.
+//! The weight of a rank: for the n-th about 2^36 over n to the power of the skew, and at least 1. A rank is drawn in proportion to its
+//! weight.
 //!
 //! The power is taken by a logarithm of 24 binary places, so that all is done in whole numbers, alike on each machine.
 ghost use Rattle.std.specs.Prelude.{◌≡◌, ◌*◌, ◌^◌, ◌<◌, ◌≤◌};
@@ -17,7 +18,7 @@ const ROOTS: [u32; 24] = [
     4294944583, 4294955939, 4294961618, 4294964457, 4294965876, 4294966586, 4294966941, 4294967119,
 ];
 
-// A logarithm with 24 binary places more; the part over 2^31 is what is left of the number.
+// Adds 24 binary places to a logarithm. `part` over 2^31 is the rest of the number.
 fn with_places(part: u64, log: u64) -> u64
     requires part { part < 2 ^ 32 }
     requires log { log ≤ 26 }
@@ -65,7 +66,7 @@ fn over_power(exponent: u64) -> u64
     if whole < 64 { part * 16 >> whole } else { 0 }
 }
 
-/// The weight of a rank, from 0 on, at a skew in hundredths.
+/// Gives the weight of a rank, at a skew in hundredths. Ranks count from 0 and must be below 2^26. The skew must be at most 1000.
 pub fn weight(rank: u64, skew: u64) -> u64
     requires few { rank < 2 ^ 26 }
     requires even { skew ≤ 1000 }

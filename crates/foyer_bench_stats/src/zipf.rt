@@ -28,7 +28,7 @@ impl Model for Zipf {
     ghost invariant = { λ z. (0 < length z.sums.items) × (0 < whole_of z.sums.items) × IsNonDecreasing z.sums.items };
 }
 
-// The first sum above a point.
+// The index of the first sum above a point, or the number of sums if there is none.
 fn first_above(sums: &[u64], point: u64) -> usize
     requires { IsNonDecreasing sums.now }
     ensures bound { result ≤ length sums.now }
@@ -39,7 +39,8 @@ fn first_above(sums: &[u64], point: u64) -> usize
 }
 
 impl Zipf {
-    /// Over so many ranks, at a skew in hundredths: all are as likely at 0.
+    /// Gives the distribution over `keys` ranks, at a skew in hundredths. At 0 all ranks are equally likely. There must be 1 to 2^26
+    /// ranks, and the skew must be at most 1000. Errors: `AllocError`.
     pub fn new(alloc: Global, keys: u64, skew: u64) -> Result<Zipf, AllocError>
         requires some { 0 < keys }
         requires few { keys ≤ 2 ^ 26 }
@@ -55,7 +56,8 @@ impl Zipf {
         Ok(Zipf { sums })
     }
 
-    /// The rank of a random word: the first whose sum is above the word's part of all weights.
+    /// Gives the rank for a random word. The word, as a part of 2^64, is a point in the sum of all weights. The rank is the first whose
+    /// sum is above that point.
     pub fn rank(&self, word: u64) -> usize
         ensures { IsRankOf self.now word result }
     {

@@ -13,7 +13,7 @@ belonging-push n i es e = sum_by_push (λ e. cond (e.hash % n == i) 1 0) es e
 belonging-cons : (n i : ℕ) (e : HashedEntryAddress) (es : List HashedEntryAddress) → belonging n i (e ∷ es) ≡ cond (e.hash % n == i) 1 0 + belonging n i es
 belonging-cons n i e es = sum_by-cons (λ e. cond (e.hash % n == i) 1 0) e es
 
--- some entry belongs where this one does
+-- some entry belongs to the shard to which this one belongs
 pub belongs_here : (n : ℕ) (es : List HashedEntryAddress) (i : ℕ) (d : HashedEntryAddress) → i < length es → 0 < belonging n ((get_or es i d).hash % n) es
 belongs_here n es i d within =
     let own = (get_or es i d).hash % n in
@@ -47,7 +47,7 @@ cleared_more counts n p es i d within place some len so_far s lt there = go (s =
         let before : belonging n s (take (i + 1) es) ≡ belonging n s (take i es) = belonging_apart n s es i d within (λ is. ne (is ∙ sym place)) in
         get_or-set_other counts p s 0 0 ne ∙ so_far s lt (omega arith)
 
--- a count is one more where the next entry belongs
+-- the count of the shard to which the next entry belongs is one more
 pub counted_more : (counts : List ℕ) (n p : ℕ) (es : List HashedEntryAddress) (i : ℕ) (d : HashedEntryAddress) → i < length es
     → p ≡ (get_or es i d).hash % n → 0 < n → length counts ≡ n
     → (s : ℕ) → slice_index counts s ≡ belonging n s (take i es)

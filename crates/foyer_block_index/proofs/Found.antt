@@ -23,7 +23,7 @@ find-lookup : {X : Type 0} (q : ℕ) (es : List (ℕ × X)) → find nat_cmp q e
 find-lookup q [] = refl
 find-lookup q (e ∷ es) = ap (λ b. cond b (Some e.1) (find nat_cmp q es)) (unsigned_tied q e.0) ∙ ap (cond (nat_eq q e.0) (Some e.1)) (find-lookup q es)
 
--- where the first list has nothing, the second one is asked
+-- if the first list has nothing, the second one is asked
 lookup-append_none : {X : Type 0} (test : ℕ → Bool) (xs ys : List (ℕ × X)) → lookup test xs ≡ None → lookup test (xs ++ ys) ≡ lookup test ys
 lookup-append_none test [] ys none = refl
 lookup-append_none test (x ∷ xs) ys none = go (test x.0) none (lookup-append_none test xs ys)
@@ -33,7 +33,7 @@ lookup-append_none test (x ∷ xs) ys none = go (test x.0) none (lookup-append_n
     go true none rest = cc
     go false none rest = rest none
 
--- where the second list has nothing, the first one decides
+-- if the second list has nothing, the first one decides
 lookup-append_first : {X : Type 0} (test : ℕ → Bool) (xs ys : List (ℕ × X)) → lookup test ys ≡ None → lookup test (xs ++ ys) ≡ lookup test xs
 lookup-append_first test [] ys none = none
 lookup-append_first test (x ∷ xs) ys none = ap (cond (test x.0) (Some x.1)) (lookup-append_first test xs ys none)
@@ -181,7 +181,7 @@ module _ (shards : List Shard) (h p : ℕ) (old new : Shard) (own : IsShardOf sh
       back q true e = sym get-here ∙ ap (map.get (map_of shards)) (sym (eqb-true q h (sym (unsigned_tied q h) ∙ e)))
       back q false e = refl
 
-  -- the room of the shards, where that of one falls by one at most
+  -- the room of the shards, if that of one falls by one at most
   pub room-slice_set : spare_of old ≤ spare_of new + 1 → (s : ℕ) → room shards s ≤ room (slice_set shards p new) s + (if h % length shards == s then 1 else 0)
   room-slice_set falls s = go (h % length shards == s) refl
     where
@@ -246,7 +246,7 @@ no_value : (o : Option Shard) (q : ℕ) → ((s : Shard) → o ≡ Some s → s.
 no_value None q none = refl
 no_value (Some s) q none = ap (λ es. held_in es q) (none s refl)
 
--- where no shard has an entry, the map is empty
+-- if no shard has an entry, the map is empty
 pub map_of-no_entries : (shards : List Shard) → ((k : ℕ) (s : Shard) → slice_get shards k ≡ Some s → s.entries ≡ []) → map_of shards ≡ map.empty
 map_of-no_entries shards none = same_map nat_cmp_total nat_cmp-IsAntisymmetric _ _ (λ q.
     get-map_of shards q ∙ no_value (slice_get shards (q % length shards)) q (none (q % length shards)) ∙ sym (get-empty nat_cmp q))

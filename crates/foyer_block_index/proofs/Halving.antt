@@ -11,7 +11,7 @@ pub halved : (size left : ℕ) → 0 < size → size < 2 ^ left → (rest : ℕ)
 halved size zero some lt = absurd (omega arith)
 halved size (suc rest) some lt = let twice : 2 ^ suc rest ≡ 2 ^ rest * 2 = pow-suc 2 rest in (rest, omega arith, omega arith)
 
--- what is known of the turns goes on where what is left falls to its half
+-- what is known of the turns still holds after one more turn if at most half is left
 pub turns_on : (len old turns new size half : ℕ) → 0 < size → half ≤ size / 2 → new ≤ turns + 1
     → ((digits : ℕ) → len < 2 ^ digits → (left : ℕ) × (size < 2 ^ left) × (turns + left ≤ old + digits))
     → (digits : ℕ) → len < 2 ^ digits → (left : ℕ) × (half < 2 ^ left) × (new + left ≤ old + digits)

@@ -26,7 +26,7 @@ module _ {X : Type 0} (hash : X → ℕ) (value : X → Index) (has : Option Ind
   abbrev pub LeftBy : IndexMap → IndexMap → List X → Type 0
   LeftBy m now xs = (q : ℕ) → map.get now q ≡ cond (list_any (λ x. hash x == q && has (map.get m q) x) xs) None (map.get m q)
 
-  -- a removal, where the list before named b, and this one is of the same hash or not
+  -- one more removal, of the same hash or not; b says whether the list before it named the entry
   at_same : (o : Option Index) (x : X) (b acted : Bool) (new now : Option Index) → now ≡ cond b None o
       → (IsTrue acted ↔ (now ≡ Some (value x))) → new ≡ cond acted None now → new ≡ cond (b || (has o x || false)) None o
   at_same o x true true new now was is e = e

@@ -41,7 +41,7 @@ room_counted counts shards n es counted enough i lt = go (belonging n i es) refl
         let fits : slice_index counts i ≤ room shards i = enough i lt some in
         omega arith
 
--- an insertion that was refused came where its shard had no room, so that no shard has less
+-- an insertion is refused only if its shard has no room, so no shard has less room afterwards
 pub refused_keeps : {T E : Type 0} (r : Result T E) (old new : List Shard) (hash : ℕ) → OnErr r (map_of new ≡ map_of old) → length new ≡ length old
     → (0 < room old (hash % length old) → IsOk r) → TakesOnePlace old new hash → OnErr r (KeepsIndex (state_of old) (state_of new))
 refused_keeps (Ok x) old new hash same len succeeds takes = same
@@ -76,7 +76,7 @@ counts_of {n} m read counts es len same are =
 pub not_refused : {T E : Type 0} (r : Result T E) (e : E) → r ≡ Err e → IsOk r → ⊥
 not_refused r e is ok = let bad = subst IsOk is ok in cc
 
--- a reservation for a batch that is refused came where a shard had no room
+-- a reservation for a batch is refused only if a shard has no room
 pub refused_without_room : {T E : Type 0} (r : Result T E) (e : E) (state : IndexState) (shards : List Shard) (es : List HashedEntryAddress)
     → state_of shards ≡ state → (HasRoom (length shards) shards es → IsOk r) → r ≡ Err e → HasRoomFor state.rooms es → ⊥
 refused_without_room r e state shards es view fits err some =

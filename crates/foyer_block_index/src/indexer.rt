@@ -35,7 +35,7 @@ pub struct EntryAddress {
     pub len: u32,
     /// The sequence of the put.
     pub sequence: Sequence,
-    /// The block's generation in which it was written.
+    /// The filling of the block in which the record was written.
     pub filling: u64,
 }
 
@@ -51,22 +51,22 @@ pub struct HashedEntryAddress {
 /// What the index holds for a hash.
 #[derive(Clone, Copy, Debug, PartialEq, Eq)]
 pub enum Index {
-    /// The record of the newest put.
+    /// The address of a record.
     Address(EntryAddress),
-    /// The mark of a newer delete.
+    /// The mark of a delete, with its sequence.
     Tombstone(Sequence),
 }
 
-/// A map from hashes to what they have, and the room of each of its shards. Of all that is inserted for a hash the greatest
-/// sequence stays, the later among equals.
+/// A map from hashes to what they have, and the room of each of its shards. Among the insertions for a hash the one of the greatest
+/// sequence stays, and the last one among equals.
 #[derive(Drop)]
 pub struct Indexer<A: Allocator> {
     shards: Vec<Shard<A>, A>,
-    // For each shard a count, of use for the shards of a batch while that enters or goes alone.
+    // A count for each shard. A batch that enters or leaves uses the counts of its own shards, until it is done.
     counts: Vec<usize, A>,
-    // The seats of a batch, of use while its hashes get their places.
+    // The seats of a batch, while its hashes get their places.
     seats: Vec<Seat, A>,
-    // Of these the hashes of one shard that have no place yet.
+    // The hashes of those seats that are in one shard and have no place yet.
     news: Vec<u64, A>,
 }
 
@@ -89,7 +89,7 @@ impl<A: Allocator> Model for Indexer<A> {
 }
 
 impl<A: Allocator + Clone> Indexer<A> {
-    /// An index of so many shards that has nothing. Memory is the only refusal.
+    /// Gives an empty index with `shards` shards, of which there must be at least one. Errors: `Memory`.
     pub fn new(alloc: A, shards: usize) -> Result<Indexer<A>>
         requires { 0 < shards }
         ensures empty { IfOk result (λ indexer. indexer.slots ≡ map.empty) }
@@ -108,8 +108,8 @@ impl<A: Allocator + Clone> Indexer<A> {
         })
     }
 
-    /// Inserts a mark, and answers the address that doesn't stay. The only error is `Memory`. It comes only if the hash has nothing yet and
-    /// its shard has no room.
+    /// Inserts a mark, and gives the address that it replaces, if there is one. Errors: `Memory`, only if the hash has nothing yet and its
+    /// shard has no room. Then each hash has what it had.
     pub fn insert_tombstone(
         &mut self,
         hash: u64,
@@ -127,7 +127,7 @@ impl<A: Allocator + Clone> Indexer<A> {
         shards::enter(&mut self.shards, hash, Index::Tombstone(sequence))
     }
 
-    /// A look at the shard of that number, with no turns yet: it has the hashes of the index that belong there.
+    /// Gives a view of the shard of this number, which must be there. The view has the hashes of the index that belong there, and 0 turns.
     pub fn probe(&self, shard: usize) -> Probe<'_>
         requires { shard < length self.now.rooms }
         ensures hashes { (hash : ℕ) → HasPlace result.hashes hash
@@ -137,7 +137,7 @@ impl<A: Allocator + Clone> Indexer<A> {
         self.shards[shard].probe()
     }
 
-    /// The address of a hash. A mark has none.
+    /// Gives the address of a hash, or `None` if the hash has a mark or nothing.
     pub fn get(&self, hash: u64) -> Option<EntryAddress>
         ensures { result ≡ address_at self.now.slots hash }
     {
@@ -148,8 +148,9 @@ impl<A: Allocator + Clone> Indexer<A> {
         }
     }
 
-    /// Inserts addresses in order, and answers those that don't stay. The answers are in that order and in the batch's memory. The only error
-    /// is `Memory`. It comes only if a hash of the batch has nothing yet and a shard lacks room.
+    /// Inserts addresses in order. Gives those that don't stay, in that order and in the batch's memory. For an insertion that is the
+    /// address that it replaces, or its own if the hash has something newer. Errors: `Memory`, only if a hash of the batch has nothing yet
+    /// and a shard lacks room. Then each hash has what it had.
     pub fn insert_batch(
         &mut self,
         batch: Vec<HashedEntryAddress, A>,
@@ -210,10 +211,10 @@ impl<A: Allocator + Clone> Indexer<A> {
         Ok(())
     }
 
-    /// Inserts addresses in order and gives the batch back empty, with its memory. It answers none of the addresses. The only error is
-    /// `Memory`. It comes only if a hash of the batch has nothing yet and a shard lacks room. A large batch goes in faster than by
-    /// `insert_batch`, because it is ordered by shard first. The ordering takes up to twice the batch's bytes. If they are refused, the batch
-    /// goes in unordered.
+    /// Inserts addresses in order, and gives the batch back empty, with its memory. It doesn't give the addresses that don't stay. Errors:
+    /// `Memory`, only if a hash of the batch has nothing yet and a shard lacks room. Then each hash has what it had. A large batch goes in
+    /// faster than by `insert_batch`, because it is ordered by shard first. The ordering takes up to twice the batch's bytes. If they are
+    /// refused, the batch goes in unordered.
     pub fn insert_all(
         &mut self,
         batch: Vec<HashedEntryAddress, A>,
@@ -232,9 +233,10 @@ impl<A: Allocator + Clone> Indexer<A> {
         Ok(batch)
     }
 
-    /// Enters the records of a block into the index, in order, and gives how many of them are puts. A record without a source is inserted,
-    /// and is a put. A record with a source replaces that address if its hash has just that address, and is a put then. The only error is
-    /// `Memory`. It comes only if a hash of a record without a source has nothing yet and a shard lacks room.
+    /// Enters the records of a block into the index, in order, and gives how many of them are puts. There must be as many sources as
+    /// records. A record without a source is inserted, and is a put. A record with a source replaces that address if its hash has just that
+    /// address, and is a put then. Errors: `Memory`, only if a hash of a record without a source has nothing yet and a shard lacks room.
+    /// Then each hash has what it had.
     pub fn commit_batch(
         &mut self,
         batch: &[HashedEntryAddress],
@@ -316,8 +318,8 @@ impl<A: Allocator + Clone> Indexer<A> {
     }
 }
 
-/// After any insertions of addresses into an empty index a hash has the newest of its own: none of
-/// them has a greater sequence, and none behind it an equal one.
+/// After any insertions of addresses into an empty index, a hash has the newest of its own, if it has any. None of them has a greater
+/// sequence, and none after it has an equal one.
 pub fn greatest_sequence_stays()
     ensures { (entries : List HashedEntryAddress) (hash : ℕ)
         → MatchOption (map.get (inserted_all map.empty entries) hash)

@@ -52,7 +52,7 @@ impl<'a> Probe<'a> {
         self.turns
     }
 
-    /// The hash of the entry at a place.
+    /// The hash of the entry at a place, which must be below the length.
     pub fn at(&mut self, place: usize) -> u64
         requires { place < length self.old.hashes }
         ensures hash { result ≡ slice_index self.old.hashes place }

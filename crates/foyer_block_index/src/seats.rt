@@ -32,8 +32,8 @@ fn is_piece(sources: &[Option<EntryAddress>], i: usize) -> bool
     }
 }
 
-// The seats of a batch's records without a source from `from` on, as many as memory is there for. The first record that wasn't
-// looked at.
+// Gathers the seats of a batch's records without a source, from record `from` on, until memory is refused. Gives the number of the first
+// record that it didn't look at.
 fn gather<A: Allocator>(
     seats: &mut Vec<Seat, A>,
     batch: &[HashedEntryAddress],
@@ -65,8 +65,8 @@ fn gather<A: Allocator>(
     batch.len()
 }
 
-// The hashes of the seats from `from` on that are in the shard of that number and have no place in it, up to the first seat of
-// another shard, and as many as memory is there for. The first seat that wasn't looked at.
+// Gathers the hashes of seats that are in the shard of that number and have no place in it, from seat `from` on. Ends at the first seat of
+// another shard, or if memory is refused. Gives the number of the first seat that it didn't look at.
 fn take_run<A: Allocator>(
     news: &mut Vec<u64, A>,
     shard: &Shard<A>,
@@ -101,8 +101,8 @@ fn take_run<A: Allocator>(
     seats.len()
 }
 
-// Places in the shard of that number for the hashes of a run of seats that begins at `from`, for which there is room. The first
-// seat that has no place yet.
+// Makes places in the shard of that number for the hashes of a run of seats that begins at `from`. There is room for them. Gives the number
+// of the first seat that has no place yet.
 fn seat_run<A: Allocator>(
     shard: &mut Shard<A>,
     news: &mut Vec<u64, A>,
@@ -169,8 +169,8 @@ fn order<A: Allocator>(seats: &mut Vec<Seat, A>)
     }
 }
 
-// Makes places for the hashes of a batch's records that have no source. Each shard has room for the batch. If there are fewer sources
-// than records, the records behind have none. The call looks only at the shards of these hashes.
+// Makes places for the hashes of a batch's records that have no source. Each shard has room for the batch. If there are fewer sources than
+// records, the last records have none. The call looks only at the shards of these hashes.
 pub(crate) fn seat_all<A: Allocator>(
     shards: &mut Vec<Shard<A>, A>,
     seats: &mut Vec<Seat, A>,

@@ -156,7 +156,7 @@ impl<A: Allocator> Shard<A> {
         }
     }
 
-    /// Room for so many more entries.
+    /// Makes room for `count` more entries. Errors: `Memory`.
     pub(crate) fn reserve(&mut self, count: usize) -> Result<()>
         ensures room { OnOk result (count ≤ self.new.spare) }
         ensures fits { count ≤ self.old.spare → IsOk result }
@@ -167,7 +167,7 @@ impl<A: Allocator> Shard<A> {
         Ok(self.entries.reserve(count)?)
     }
 
-    /// Vacant places for ascending hashes that have none, for which there is room.
+    /// Makes vacant places for ascending hashes that have none. There must be room for them.
     pub(crate) fn merge(&mut self, news: &[u64])
         requires ascend { IsStrictlyIncreasing news.now }
         requires absent { All (Lacks (hashes self.old.entries)) news.now }
@@ -203,7 +203,7 @@ impl<A: Allocator> Shard<A> {
         Ok(place.unwrap())
     }
 
-    /// An insertion.
+    /// Inserts what a hash is to have, and gives the address that doesn't stay, if there is one. Errors: `Memory`.
     pub(crate) fn enter(&mut self, hash: u64, next: Index) -> Result<Option<EntryAddress>>
         ensures entered { OnOk result
             (ChangesAt self.old self.new hash (Some (entered (held_at self.old hash) next))) }
@@ -267,7 +267,7 @@ impl<A: Allocator> Shard<A> {
         self.exchange(hash, held, Slot::Vacant)
     }
 
-    /// Takes the vacant places away.
+    /// Removes the vacant places.
     pub(crate) fn sweep(&mut self)
         ensures same { HoldsSame self.old self.new }
         ensures only { (hash : ℕ) → Has self.new hash → Has self.old hash }
@@ -283,7 +283,7 @@ impl<A: Allocator> Shard<A> {
     }
 }
 
-// Adds so many vacant entries, for which there is room.
+// Adds `count` vacant entries, for which there is room.
 fn lengthen<A: Allocator>(entries: &mut Vec<Entry, A>, count: usize)
     requires { vec_len entries.old + count ≤ vec_capacity entries.old }
     ensures front { take (vec_len entries.old) entries.new.items ≡ entries.old.items }

@@ -85,7 +85,7 @@ fn vacate<A: Allocator>(shards: &mut Vec<Shard<A>, A>, hash: u64, held: Index) -
     shards[place].vacate(hash, held)
 }
 
-// Takes the vacant places of the shard at a place away.
+// Removes the vacant places of the shard with this number.
 fn sweep<A: Allocator>(shards: &mut Vec<Shard<A>, A>, place: usize)
     requires { place < length shards.old.items }
     ensures same { map_of shards.new.items ≡ map_of shards.old.items }
@@ -97,7 +97,7 @@ fn sweep<A: Allocator>(shards: &mut Vec<Shard<A>, A>, place: usize)
     shards[place].sweep();
 }
 
-// Takes away the vacant places of the shard of a hash, if the shard's count isn't 0. The count is 0 then.
+// Removes the vacant places of the shard of a hash if the shard's count isn't 0, and makes the count 0.
 fn sweep_counted<A: Allocator>(shards: &mut Vec<Shard<A>, A>, counts: &mut [usize], hash: u64)
     requires some { 0 < length shards.old.items }
     requires counts { length counts.old ≡ length shards.old.items }
@@ -227,7 +227,7 @@ fn clear_counts(counts: &mut [usize], batch: &[HashedEntryAddress])
     }
 }
 
-// Counts for each shard in which an entry of a batch belongs how many do. Other shards' counts say nothing.
+// Counts how many entries of a batch belong in each shard. Only the counts of shards in which some entry belongs have a meaning.
 pub(crate) fn count(counts: &mut [usize], batch: &[HashedEntryAddress])
     requires { 0 < length counts.old }
     ensures { AreCountsOf (length counts.old) counts.new batch.now }
@@ -277,7 +277,8 @@ pub(crate) fn holds_all<A: Allocator>(shards: &[Shard<A>], batch: &[HashedEntryA
     true
 }
 
-// Inserts a batch in order, whose hashes have their places. The addresses that don't stay are moved to its front, and counted.
+// Inserts a batch in order. The hashes have their places already. Moves the addresses that don't stay to the batch's front, and gives how
+// many they are.
 pub(crate) fn enter_all<A: Allocator + Clone>(
     shards: &mut Vec<Shard<A>, A>,
     batch: &mut [HashedEntryAddress],
@@ -335,7 +336,7 @@ pub(crate) fn holds_pieces<A: Allocator>(
     true
 }
 
-// A record enters the index, whose hash has its place if it has no source. Whether it is a put.
+// Enters a record into the index, and gives whether it is a put. If it has no source, its hash has its place already.
 fn commit_one<A: Allocator + Clone>(
     shards: &mut Vec<Shard<A>, A>,
     record: &HashedEntryAddress,
@@ -364,7 +365,7 @@ fn commit_one<A: Allocator + Clone>(
     }
 }
 
-// Orders a batch by shard. The entries of each hash stand as before. If memory for that is refused, the batch stays as it was.
+// Orders a batch by shard. The entries of each hash keep their order. If memory for that is refused, the batch stays as it was.
 pub(crate) fn arrange<A: Allocator>(batch: &mut Vec<HashedEntryAddress, A>, shards: usize)
     requires { 0 < shards }
     ensures moved { IsPermutation batch.old.items batch.new.items }

@@ -51,7 +51,7 @@ fact_set fact blocks b it lt q = go (q == b) refl
     go true e = ap (λ k. fact (slice_get (slice_set blocks b it) k)) (eqb-true q b e) ∙ ap fact (set_here blocks b it lt)
     go false e = ap fact (set_there blocks b q it (eqb-false q b e))
 
--- a fact of every block stays where it stays of the one that is set
+-- a fact about each block stays if it stays for the block that is set
 pub fact_same : {V : Type 0} (fact : Option BlockState → V) (blocks : List BlockState) (b : ℕ) (old it : BlockState) → slice_get blocks b ≡ Some old
     → fact (Some it) ≡ fact (Some old) → (q : ℕ) → fact (slice_get (slice_set blocks b it) q) ≡ fact (slice_get blocks q)
 fact_same fact blocks b old it was same q = fact_set fact blocks b it (there_is blocks b old was) q ∙ go (q == b) refl
@@ -60,7 +60,7 @@ fact_same fact blocks b old it was same q = fact_set fact blocks b it (there_is 
     go true e = same ∙ sym (ap fact was) ∙ ap (λ k. fact (slice_get blocks k)) (sym (eqb-true q b e))
     go false e = refl
 
--- membership where an id leaves a list, or enters it
+-- membership if an id leaves a list, or enters it
 pub without_test : (q b : ℕ) (xs : List ℕ) → is_id_in q (without_id b xs) ≡ (if q == b then false else is_id_in q xs)
 without_test q b xs = go (q == b) refl
   where

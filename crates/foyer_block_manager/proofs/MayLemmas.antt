@@ -64,7 +64,7 @@ evictable_there blocks b is = go (slice_get blocks b) is
     go None e = absurd (let clash : false ≡ true = e in cc)
     go (Some it) e = (it, refl, e)
 
--- a reclaim begins only where some block is evictable
+-- a reclaim begins only if some block is evictable
 pub some_allowed : (cleaning : Bool) (reclaiming reclaimers : ℕ) (xs : List ℕ) (usable threshold : ℕ) (none_waits : Bool)
     → allows cleaning reclaiming reclaimers (length xs == 0) usable threshold none_waits ≡ true → 0 < length xs
 some_allowed cleaning reclaiming reclaimers xs usable threshold none_waits e =

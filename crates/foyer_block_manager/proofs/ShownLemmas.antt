@@ -40,7 +40,7 @@ module _ {Q : Type 0} (may_be : Q → Q → Type 0) where
   changed_all [] (x ∷ qs) (suc i) le before = absurd before.0
   changed_all (p ∷ ps) (x ∷ qs) (suc i) le before = (before.0.0, changed_all ps qs i (omega arith) (before.0.1, before.1))
 
--- a test that is false where a flusher writes the block
+-- no flusher writes a block if a test is false that is true whenever a flusher writes it
 pub not_writing : (m : Managed) (b : ℕ) (t : Bool) → (IsWritten m b → IsTrue t) → t ≡ false → is_writing (slice_get m.blocks b) ≡ false
 not_writing m b t writes not = go (is_writing (slice_get m.blocks b)) refl
   where

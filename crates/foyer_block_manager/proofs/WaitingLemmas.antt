@@ -51,7 +51,7 @@ is_in_list [] i lt = absurd (omega arith)
 is_in_list (x ∷ xs) zero lt = same_in x xs
 is_in_list (x ∷ xs) (suc i) lt = later_in (slice_index xs i) x xs (is_in_list xs i (omega arith))
 
--- where no id is there twice, an id leaves with its position
+-- if no id is in the list twice, an id leaves with its position
 pub removed_is : (xs : List ℕ) (i : ℕ) → i < length xs → AreDistinct xs → remove xs i ≡ without_id (slice_index xs i) xs
 removed_is [] i lt once = absurd (omega arith)
 removed_is (x ∷ xs) zero lt once =

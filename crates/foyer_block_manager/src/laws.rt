@@ -13,7 +13,7 @@ pub fn worst_is_picked()
     ensures { WorstIsPicked }
 {}
 
-/// Each manager stands for some sets, so that what holds of all that it stands for is never empty.
+/// For each manager there are sets that it stands for, so contracts about all such sets aren't vacuous.
 pub fn manager_stands_for_some()
     ensures { StandsForSome }
 {}

@@ -45,7 +45,7 @@ pub some_kept : (b : ℕ) (es : List BlobEntryIndex) → (hashed_entries b es �
 some_kept b [] some = absurd (some refl)
 some_kept b (e ∷ es) some = refl
 
--- of what it is sure in a block, where it is sure of more places of a disk
+-- what is sure in a block stays sure if more places of a disk are sure
 sure_more : (o : Option Listing) (failed : ℕ → Bool) (fewer more : ℕ → Type 0) → ((p : ℕ) → fewer p → more p) → (p : ℕ) → sure_in o failed fewer p → sure_in o failed more p
 sure_more None failed fewer more within p is = within p is
 sure_more (Some l) failed fewer more within p is = is
@@ -229,7 +229,7 @@ module _ {A : Type 0} where
             let ne : b ≢ n = eqb-false b n e in
             subst (Each (IsPlaced s)) (ap (λ (t : Bool). if t then this.keeps else before.keeps b) (sym e)) (before.placed b (omega arith))
 
-  -- the same where it is sure of fewer places
+  -- the same if fewer places are sure
   pub read_with_fewer : (s : Sizes) (n : ℕ) (bytes : ℕ → ℕ → ℕ) (more fewer : ℕ → ℕ → ℕ → Type 0) (strict : Bool) (read : BlocksRead A)
       → ((b o k : ℕ) → fewer b o k → more b o k) → AreBlocksRead s n bytes more strict read → AreBlocksRead s n bytes fewer strict read
   read_with_fewer s n bytes more fewer strict read within are = record {

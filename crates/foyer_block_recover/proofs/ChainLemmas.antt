@@ -294,7 +294,7 @@ module _ (s : Sizes) (B : ℕ → ℕ) (sizes : AreSizes s) where
     whole = λ is cut. let bad : false ≡ true = cut.4 in cc;
   }
 
-  -- and where a read failed
+  -- and if a read failed
   pub along_fails : (surely : ℕ → Type 0) (block p : ℕ) (old now : List HashedEntryAddress) (last offset : Option ℕ) → offset ≡ Some p
       → p + s.index ≤ s.block → (surely p → ⊥) → IsAlong s B block old now last offset → IsKeptOf s B surely block old now true
   along_fails surely block p old now last offset at room unsure along = record {

@@ -13,7 +13,7 @@ use Rattle.foyer_block_recover.specs.Chained.{hashed_entries}
 use Rattle.foyer_block_recover.specs.Kept.{greatest_in}
 use Rattle.foyer_block_recover.specs.Opening.{Found, Stands, Marked, hash_of, sequence_of, first_or, winner, stand_in, all_stand, greatest, is_empty, clean_from}
 
--- the later one, where the one before isn't greater
+-- the later one, if the one before it isn't greater
 abbrev pub last_or : Option Found → Found → Found
 last_or None x = x
 last_or (Some y) x = if nat_le (sequence_of y) (sequence_of x) then x else y

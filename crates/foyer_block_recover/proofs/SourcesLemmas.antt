@@ -46,7 +46,7 @@ pub by_failed : (s : Sizes) (B : ℕ → ℕ) (surely : ℕ → Type 0) (b : ℕ
     → (is : IsKeptOf s B surely b old new is_cut) → IsKeptBy s B is.failed b old new is_cut
 by_failed s B surely b old new is_cut is = record { listed = is.listed; lists = is.lists; kept = is.kept; cut = is.cut; whole = is.whole }
 
--- and behind what a batch had, where it is sure of all others
+-- and after what a batch had, if the reads of all other places are sure
 pub behind_batch : (s : Sizes) (B : ℕ → ℕ) (failed : ℕ → Bool) (b : ℕ) (old es : List HashedEntryAddress) (is_cut : Bool)
     → IsKeptBy s B failed b [] es is_cut → IsKeptOf s B (λ p. failed p ≡ false) b old (old ++ es) is_cut
 behind_batch s B failed b old es is_cut is = record {

@@ -8,8 +8,8 @@ pub fn marks_forget()
     ensures unseen { MarksForgetUnseen }
 {}
 
-/// Suppose that each listing that came lists its own block of some bytes, whichever came first. Then a recovery that is given the listings
-/// opens these bytes: `RecoverRunner::run_with` gives the opening of what was read.
+/// Take any bytes such that each listing lists its own block of these bytes. The listings may have been added in any order. If the disk has
+/// these bytes, too, `RecoverRunner::run_with` with these listings gives the opening of these bytes.
 pub fn listings_are_sources()
     ensures { ListingsAreSources }
 {}

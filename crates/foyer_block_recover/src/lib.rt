@@ -1,5 +1,5 @@
-//! Recovery: what an opening makes of the bytes of all blocks and of the marks of deletes. Its index, the next sequence,
-//! and the blocks that are clean.
+//! Recovery: what an opening makes of the bytes of all blocks and of the marks of deletes. It makes an index, the next sequence, and the
+//! list of clean blocks.
 #![tactic(auto)]
 
 pub mod block;

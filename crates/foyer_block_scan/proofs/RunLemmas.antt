@@ -20,7 +20,7 @@ infos_both block filling [] ys = refl
 infos_both block filling (x ∷ xs) ys = ap (λ l. info_of block filling x ∷ l) (infos_both block filling xs ys)
 
 module _ (s : Sizes) (B : ℕ → ℕ) (failed : ℕ → Bool) (sizes : AreSizes s) where
-  -- one more offset changes nothing where the block has no more bytes
+  -- one more offset changes nothing if the block has no more bytes
   walk_more : (n p : ℕ) → s.block < p + n → walk n s B failed (next_blob s p) ≡ walk (suc n) s B failed (next_blob s p)
   walk_more zero p far = go (nat_le (p + s.index) s.block) refl
     where

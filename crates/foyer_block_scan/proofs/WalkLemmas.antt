@@ -22,7 +22,7 @@ behind_far s p (e ∷ []) le all = let past : s.index ≤ e.offset = (all.0).beh
 behind_far s p (e ∷ d ∷ es) le all = behind_far s p (d ∷ es) le all.1
 
 module _ (s : Sizes) (B : ℕ → ℕ) (failed : ℕ → Bool) (sizes : AreSizes s) where
-  -- what stands at an offset with room is an index exactly where it is found
+  -- what is stored at an offset with room is an index exactly if it is found
   pub index_there : (p : ℕ) (es : List BlobEntryIndex) → p + s.index ≤ s.block → index_in s B failed p ≡ Some es → IsIndex s B failed p es
   index_there p es room found = go (failed p) refl found
     where

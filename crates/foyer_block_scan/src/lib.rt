@@ -1,5 +1,5 @@
-//! The scan of a block: what its chain of indices lists, one index after the other, and what of it is kept. A scan
-//! reads nothing: it gives the offset that is to be read next, and takes what was read there.
+//! The scan of a block: what its chain of indices lists, one index after the other. A scan reads nothing: it gives the offset that is to be
+//! read next, and takes what was read there.
 #![tactic(auto)]
 
 pub mod block;

@@ -78,7 +78,7 @@ pub page_put : {slots start : ℕ} {marks : List Tombstone} {d e : Disk} {ps : L
 page_put {slots} {start} {marks} {d} {e} {ps} {n} {old} {new} before size written same put j lt =
     put_as (sym (ring_page before size j lt)) (sym (ring_page (written_holds written) same j lt)) (put j lt)
 
--- the same of a call that answers, where it answers Ok
+-- the same for a call that answers, if it answers Ok
 pub put_written : {A X : Type 0} (slots start : ℕ) (marks : List Tombstone) (ps : List Place) (n : ℕ) (old new : List ℕ) (r : Result A X) (D E : Option Disk)
     → IfKnown D (λ d. HoldsPage d ps n old) → length old ≡ 4096 → length new ≡ 4096
     → Becomes D E (λ d e. MatchResult r (λ a. IsPageWritten d ps n new e) (λ x. ChangesPages d ps (λ m. m ≡ n) e))

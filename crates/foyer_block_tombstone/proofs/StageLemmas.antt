@@ -135,7 +135,7 @@ stage_more ps pages start marks j D C N within touched stage changes put = λ d 
     (ring_on s.0 ps (256 * page_number pages start j + i)) (ring_on f ps (256 * page_number pages start j + i)) in
     (w.0, w.1, stage_next ps pages start marks j d s.0 w.0 s.2 within touched w.2 (subst P same p.2))
 
--- where the last page failed
+-- if the last page failed
 pub stage_fault : (ps : List Place) (pages start : ℕ) (marks : List Tombstone) (j : ℕ) (D C N : Option Disk)
     → IsTouched (256 * pages) start (length marks) (page_number pages start j)
     → Becomes D C (λ d e. Stage ps pages start marks j d e)
@@ -164,7 +164,7 @@ touched_from {d} {e} {ps} slots start count changes = record {
       outside n (touched.0, touched.1, ap (λ (m : ℕ). m / 256) (sym (mod-add-mod start slots touched.0)) ∙ touched.2));
 }
 
--- where a log goes on of which all slots were read
+-- where a log continues after all its slots were read
 pub goes_on : (ring : ℕ → Tombstone) (n : ℕ) (base marks : List Tombstone) (sequence slot : ℕ) → IsRead ring n base marks sequence slot → GoesOnAt ring n slot
 goes_on ring n base marks sequence slot read =
     elim read.next [

@@ -67,7 +67,7 @@ written_more old j now new first then =
 pub written_none : (old : ℕ) → old < 2 ^ 64 → HasWritten old 0 old
 written_none old few = omega arith
 
--- where the last page was refused
+-- if the last page was refused
 pub written_fault : (old j most now new : ℕ) → j < most → HasWritten old j now → (new ≡ now) ⊎ HasWritten now 1 new → HasWrittenAtMost old most new
 written_fault old j most now new less first (inl same) = (j, omega arith, same ∙ first)
 written_fault old j most now new less first (inr more) = (j + 1, omega arith, written_more old j now new first more)

@@ -29,7 +29,7 @@ module _ {A : Type 0} where
   second_number (a ∷ (b ∷ (c ∷ []))) o d are = are.2
   second_number (a ∷ (b ∷ (c ∷ (e ∷ es)))) o d are = absurd are
 
--- what is asked for is valid where it goes together
+-- the settings that were asked for are valid if the options go together
 pub together_valid : (o : Options) (s : Settings) → AreAsked o s → GoTogether o → AreValid s
 together_valid o s asked go =
     let above : o.block_size ≤ page_up o.block_size = page_up-holds o.block_size in
@@ -50,7 +50,7 @@ together_valid o s asked go =
       few_workers = omega (arith, asked.flushers, asked.reclaimers);
     }
 
--- and goes together where it is valid
+-- and the options go together if the settings are valid and have fewer than 2^32 blocks
 pub valid_together : (o : Options) (s : Settings) → AreAsked o s → s.blocks < 2 ^ 32 → AreValid s → GoTogether o
 valid_together o s asked few valid =
     let above : o.block_size ≤ page_up o.block_size = page_up-holds o.block_size in
@@ -70,7 +70,7 @@ valid_together o s asked few valid =
         go true e = grind (arith, nat_tests)
         go false e = absurd (never (grind (arith, nat_tests)))
 
--- rounded up to whole pages, and one of these at least where it isn't 0
+-- a size rounded up to whole pages, and at least one page if the size isn't 0
 pub rounded : (b r : ℕ) → r ≡ div_ceil b 4096 → r * 4096 ≡ page_up b
 unfolding page_up
 rounded b r is = omega (arith, is)

@@ -1,7 +1,7 @@
 //! The core: one reply to each step, and no access of its own; how it is run over a disk; how threads share it; and its laws.
 //!
-//! A door: it passes on what its parts have, `foyer_core_steps`, `foyer_core_flusher`, `foyer_core_access`, `foyer_core_run`,
-//! `foyer_core_shared`, `foyer_core_tally` and `foyer_core_returns`, and has no code of its own.
+//! It re-exports its parts, `foyer_core_steps`, `foyer_core_flusher`, `foyer_core_access`, `foyer_core_run`, `foyer_core_shared`,
+//! `foyer_core_tally` and `foyer_core_returns`, and has no code of its own.
 #![tactic(auto)]
 
 pub mod accesses;

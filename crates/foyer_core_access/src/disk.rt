@@ -12,8 +12,8 @@ use foyer_io_disk::disk::Disk;
 use std::alloc::{AllocError, Allocator};
 use std::mem::replace;
 
-/// Does the read that a ticket issues, into the memory of `spare`. The memory grows if it is too small, and what stood in it is gone. `Err`
-/// is a refused allocation. A fault of the disk is the step's result, and leaves the memory in `spare`.
+/// Does the read that a ticket issues, into the memory of `spare`, which grows if it is too small. The outer `Err` is a refused allocation,
+/// and drops that memory. The inner result is the disk's. A fault leaves the memory in `spare`.
 pub fn do_read<A: Allocator, D: Disk>(
     alloc: A,
     disk: &mut D,
@@ -50,7 +50,7 @@ pub fn do_read<A: Allocator, D: Disk>(
     }
 }
 
-/// Does a write that a reply issues.
+/// Does a write that a reply issues. An error may leave any bytes in the write's range.
 pub fn do_write<A: Allocator, D: Disk>(disk: &mut D, block: BlockId, write: &Write<A>) -> Result<()>
     ensures wrote { D.is_known disk.old → OnOk result
         (IsWritten (D.byte_at disk.old) block write.now.offset (written_bytes write.now.bytes) (D.byte_at disk.new)) }

@@ -12,7 +12,7 @@ use foyer_format_record::block::buffer::PAGE;
 use foyer_io_disk::disk::Disk;
 use std::alloc::Allocator;
 
-/// What a reclaim reads of its block: so many bytes from an offset on.
+/// What a reclaim reads of its block: `len` bytes from `offset` on.
 #[derive(Clone, Copy, Debug, PartialEq, Eq)]
 pub struct Part {
     /// Its first byte in the block.
@@ -21,7 +21,7 @@ pub struct Part {
     pub len: usize,
 }
 
-/// What a reply has a reclaim read next.
+/// Gives the part that a `Scan` reply asks for, and `None` for any other reply.
 pub fn next_part<K, V, P, A: Allocator>(reply: &Reply<K, V, P, A>) -> Option<Part>
     ensures { result ≡ part_in reply.now }
 {

@@ -14,7 +14,7 @@ use Rattle.foyer_block_manager.proofs.BlockStateLemmas.{is_there, there_is}
 use Rattle.foyer_block_manager.proofs.StandsLemmas.{filling_at as filling_known}
 use Rattle.foyer_core_blocks.specs.Standing.{sets_of, IsManagedAs, HasItsBlocks, LeavesOthers, KeepsReclaims, KeepsItsBlocks}
 
--- the same sets, where flushers have the same
+-- the same sets, if the flushers have the same ready blocks
 pub ready_same : (m : Managed) (s : BlockSets) (ready : ℕ → Option ℕ) → Stands m s → ((f : ℕ) → ready f ≡ s.ready f) → Stands m (record s { ready = ready })
 ready_same m s ready st same = record {
   blocks = st.blocks;

@@ -1,4 +1,4 @@
-//! The index and the blocks of a core, against the model's: which block a flusher leaves, and what became invalid.
+//! How the index and the blocks of a core relate to the model's, how a flusher leaves its block, and what became invalid.
 #![tactic(auto)]
 
 pub mod manager;

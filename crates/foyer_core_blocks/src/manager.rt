@@ -13,8 +13,7 @@ use foyer_block_manager::block::manager::{BlockId, BlockManager};
 use foyer_block_manager::block::states::BlockSet;
 use std::alloc::Allocator;
 
-/// How often a block was handed out or destroyed; of one that isn't there the greatest number, so that no address of it
-/// is of the present.
+/// Gives how often a block was handed out or destroyed. If the block isn't there, it gives 2^64 - 1.
 pub fn filling_of<A: Allocator>(manager: &BlockManager<A>, block: BlockId) -> u64
     ensures { result ≡ filling_in manager.now.blocks block }
 {
@@ -24,7 +23,7 @@ pub fn filling_of<A: Allocator>(manager: &BlockManager<A>, block: BlockId) -> u6
     }
 }
 
-/// A flusher leaves its block, which may be reclaimed from now on; the pickers are shown it.
+/// Takes a flusher's block from it, if it has one. The block may be reclaimed from now on. The pickers are notified of the block.
 pub fn release<P: EvictionPicker, A: Allocator>(
     own: &mut Option<BlockId>,
     manager: &mut BlockManager<A>,
@@ -77,7 +76,7 @@ fn invalidate<A: Allocator>(manager: &mut BlockManager<A>, invalid: &Invalidated
     }
 }
 
-/// These bytes became invalid: each counts for its block if the block still has the filling that had them.
+/// Counts these bytes as invalid. Each counts only if its block still has the filling that had the bytes, and isn't clean.
 pub fn invalidate_all<A: Allocator>(manager: &mut BlockManager<A>, invalid: &[Invalidated])
     ensures same { HasSameRules manager.old manager.new }
     ensures invalidated { (s : BlockSets) → Stands manager.old s

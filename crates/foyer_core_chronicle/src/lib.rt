@@ -1,5 +1,5 @@
-//! One history of the events of all threads, which stands in the proofs alone. Each thread has seen a beginning of it, and has
-//! rights: an event that takes a right comes only from the thread that has it.
+//! One history of the events of all threads, which exists in the proofs alone. Each thread has seen a beginning of it, and has rights: only
+//! the thread that has a right adds events that take it.
 #![tactic(auto)]
 
 ghost use Rattle.std.specs.Prelude.{◌≡◌, ℕ, Bool, List, [], ◌∷◌, IfOk};
@@ -40,7 +40,7 @@ pub struct View<E> {
     pub joined_has: LinkedList<u64>,
 }
 
-/// A thread's view of the history, of no bytes.
+/// A thread's view of the history. It is a value of no bytes.
 pub type Witness<E> = Seat<E, View<E>>;
 
 /// The rule of the table that has the history.
@@ -149,7 +149,8 @@ pub struct Chronicle<E, R: HistoryRule<E>> {
 }
 
 impl<E, R: HistoryRule<E>> Chronicle<E, R> {
-    /// An empty history, and the witness that has all rights.
+    /// Gives an empty history, and a witness that has all rights of `R::first`. These must be distinct and below `R::base`, and the empty
+    /// history legal. Errors: if memory is refused.
     pub fn open(alloc: Global) -> Result<(Chronicle<E, R>, Witness<E>), AllocError>
         requires { R.holds [] × AreRights R.base R.first }
         ensures { IfOk result (λ r. (r.1.table_id ≡ r.0.table.shared.table_id) × (r.1.me ≡ (newcomer R.first, []))) }
@@ -158,7 +159,8 @@ impl<E, R: HistoryRule<E>> Chronicle<E, R> {
         Ok((Chronicle { table }, witness))
     }
 
-    /// The history goes on by an event, for which the witness has the rights, and which may come after whatever it hasn't seen.
+    /// Adds an event to the history. The witness must have the rights that the event takes. The event must be legal after whatever the
+    /// witness hasn't seen. Afterwards the witness has seen the whole history, and has the right that the event makes, if it makes one.
     pub fn add(&self, witness: &mut Witness<E>, event: &E)
         requires own { witness.old.table_id ≡ self.now.table.shared.table_id }
         requires rights { HasRights R.takes witness.old.me.0 event.now }
@@ -181,7 +183,8 @@ impl<E, R: HistoryRule<E>> Chronicle<E, R> {
         let _ = self.table.shared.load::<Looks<R>>(witness, 0);
     }
 
-    /// Another witness, of what this one has seen, to which its first right goes over.
+    /// Gives another witness, which has seen what this one has, and moves this one's first right to it. Rights that this one took in by
+    /// `take` don't move.
     pub fn give(&self, witness: &mut Witness<E>) -> Witness<E>
         requires own { witness.old.table_id ≡ self.now.table.shared.table_id }
         ensures same { (witness.new.table_id ≡ witness.old.table_id) × (witness.new.me ≡ (without_first witness.old.me.0, witness.old.me.1)) }
@@ -190,7 +193,8 @@ impl<E, R: HistoryRule<E>> Chronicle<E, R> {
         self.table.shared.split_seat::<FirstRight>(witness)
     }
 
-    /// Another witness, of what this one has seen, to which all its rights go over.
+    /// Gives another witness, which has seen what this one has, and moves all of this one's rights to it. Rights that this one took in by
+    /// `take` don't move.
     pub fn give_all(&self, witness: &mut Witness<E>) -> Witness<E>
         requires own { witness.old.table_id ≡ self.now.table.shared.table_id }
         ensures same { (witness.new.table_id ≡ witness.old.table_id) × (witness.new.me ≡ (without_rights witness.old.me.0, witness.old.me.1)) }
@@ -199,7 +203,8 @@ impl<E, R: HistoryRule<E>> Chronicle<E, R> {
         self.table.shared.split_seat::<AllRights>(witness)
     }
 
-    /// Another witness, of what this one has seen, to which all its rights go over except this one.
+    /// Gives another witness, which has seen what this one has, and moves all of this one's rights except `N` to it. Rights that this one
+    /// took in by `take` don't move.
     pub fn give_others<N: RightNumber>(&self, witness: &mut Witness<E>) -> Witness<E>
         requires own { witness.old.table_id ≡ self.now.table.shared.table_id }
         ensures same { (witness.new.table_id ≡ witness.old.table_id) × (witness.new.me ≡ (with_only N.right witness.old.me.0, witness.old.me.1)) }
@@ -208,7 +213,7 @@ impl<E, R: HistoryRule<E>> Chronicle<E, R> {
         self.table.shared.split_seat::<Others<N>>(witness)
     }
 
-    /// Another witness, of what this one has seen, without a right.
+    /// Gives another witness, which has seen what this one has, and has no right.
     pub fn give_seen(&self, witness: &mut Witness<E>) -> Witness<E>
         requires own { witness.old.table_id ≡ self.now.table.shared.table_id }
         ensures same { (witness.new.table_id ≡ witness.old.table_id) × (witness.new.me ≡ witness.old.me) }
@@ -217,7 +222,8 @@ impl<E, R: HistoryRule<E>> Chronicle<E, R> {
         self.table.shared.split_seat::<NoRight>(witness)
     }
 
-    /// Takes another witness in. What that one had seen is forgotten at the next `take`, unless an event or a look comes between.
+    /// Takes in what another witness has seen and its rights. Both are lost at the next `take`, unless an `add` or a `look` comes before
+    /// it. What the other witness had itself taken in is lost.
     pub fn take(&self, witness: &mut Witness<E>, other: Witness<E>)
         requires own { (witness.old.table_id ≡ self.now.table.shared.table_id) × (other.table_id ≡ self.now.table.shared.table_id) × (other.me.1 ≡ []) }
         ensures { (witness.new.table_id ≡ witness.old.table_id) × (witness.new.me ≡ (joined witness.old.me.0 other.me.0, witness.old.me.1)) }
@@ -227,8 +233,9 @@ impl<E, R: HistoryRule<E>> Chronicle<E, R> {
 }
 
 impl<E: Drop, R: HistoryRule<E>> Chronicle<E, R> {
-    /// The history goes on by an event, for which two witnesses together have the rights: that of a lock, and that of who holds it. The
-    /// first keeps the right `N` alone.
+    /// Adds an event for which two witnesses together have the rights: `own`, that of a lock, and `mine`, that of the thread which holds
+    /// it. Both have then seen the whole history. `own` keeps the right `N`, if it had it. `mine` keeps its other rights, and gets the
+    /// right that the event makes, unless that is `N`.
     pub fn add_with<N: RightNumber>(&self, own: &mut Witness<E>, mine: &mut Witness<E>, event: &E)
         requires own { (own.old.table_id ≡ self.now.table.shared.table_id) × (mine.old.table_id ≡ self.now.table.shared.table_id) }
         requires whole { (own.old.me.1 ≡ []) × (mine.old.me.1 ≡ []) }

@@ -68,7 +68,7 @@ fn act_by_threads<R: Threads + Sync>(
     chronicle.give_seen(&mut witness)
 }
 
-// The thread that has right 0 brings about an event of who has right 1, and each keeps its right.
+// The thread with right 0 adds an event that takes right 1, together with the witness that has right 1. Each keeps its right.
 fn act_under_a_lock(
     chronicle: &Chronicle<Deed, Anything>,
     mut witness: Witness<Deed>,

@@ -1,4 +1,4 @@
--- A batch may begin just where the model's may.
+-- A batch may begin exactly if the model's may.
 use Rattle.std.proofs.Common.{◌≡◌, List, [], ◌∷◌, map, Option, Some, None, inl, inr, refl, sym, ap, ◌∙◌}
 use Rattle.foyer_core_model.specs.Receive.{HasReceived}
 use Rattle.foyer_core_model.specs.State as model_state
@@ -12,7 +12,7 @@ use Rattle.foyer_core_flusher.specs.Seen.{seen}
 use Rattle.foyer_core_flusher.specs.declared.batch.Batch.{Batch}
 use Rattle.foyer_core_flusher.specs.declared.flusher.Flusher.{Flusher}
 
--- a list is empty where its map is
+-- a list is empty if its map is
 pub no_map : {X Y : Type 0} (f : X → Y) (xs : List X) → map f xs ≡ [] → xs ≡ []
 no_map f [] is = refl
 no_map f (x ∷ xs) is = absurd (let e : f x ∷ map f xs ≡ [] = is in cc)

@@ -158,7 +158,7 @@ module _ (s : Settings) (block filling : ℕ) (lt : block < s.blocks) where
       counted true = omega arith
       counted false = omega arith
 
--- what is held of records is held of them where they stand
+-- what holds for records holds for them at the places where they are stored
 pub held_settled : (slots : IndexMap) (block filling : ℕ) (es : List HashedEntryAddress) (os : List (Option EntryAddress)) → PiecesHeld slots es os → PiecesHeld slots (map (settled block filling) es) os
 held_settled slots block filling [] os held = tt
 held_settled slots block filling (e ∷ es) [] held = (held.0, held_settled slots block filling es [] held.1)
@@ -170,6 +170,6 @@ belonging_settled n i block filling [] = refl
 belonging_settled n i block filling (e ∷ es) = sum_by-cons (λ e. if e.hash % n == i then 1 else 0) (settled block filling e) (map (settled block filling) es)
     ∙ ap (λ k. (if e.hash % n == i then 1 else 0) + k) (belonging_settled n i block filling es) ∙ sym (sum_by-cons (λ e. if e.hash % n == i then 1 else 0) e es)
 
--- and there is room for them where there was room for the records
+-- and there is room for them if there was room for the records
 pub room_settled : (rooms : List ℕ) (block filling : ℕ) (es : List HashedEntryAddress) → HasRoomFor rooms es → HasRoomFor rooms (map (settled block filling) es)
 room_settled rooms block filling es room = λ i lt. subst (λ k. k ≤ slice_index rooms i) (sym (belonging_settled (length rooms) i block filling es)) (room i lt)

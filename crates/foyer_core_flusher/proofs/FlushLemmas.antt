@@ -1,4 +1,4 @@
--- A flusher's batch, and the block that is being written, where the model has them.
+-- A flusher's batch, and the block that is being written, and what the model has for them.
 use Rattle.std.proofs.Common.{◌≡◌, ℕ, List, [], ◌∷◌, map, Option, Some, None, refl, subst}
 use Rattle.foyer_format_buffer.specs.Layout.{parts_of}
 use Rattle.foyer_format_buffer.specs.declared.split.Block.{Block}
@@ -12,7 +12,7 @@ use Rattle.foyer_core_flusher.specs.declared.batch.Batch.{Batch}
 use Rattle.foyer_core_flusher.specs.declared.batch.Writing.{Writing}
 
 module _ {A : Type 0} where
-  -- the model has a block to be issued just where the code has one
+  -- the model has a block to be issued exactly if the code has one
   pub some_laid : (xs : List (Block A)) (layouts : List (BlockLayout Content)) → AreBlocksAs (map parts_of xs) layouts → (xs ≡ [] → ⊥)
       → (first : BlockLayout Content) × (rest : List (BlockLayout Content)) × (layouts ≡ first ∷ rest)
   some_laid [] layouts are some = absurd (some refl)
@@ -25,7 +25,7 @@ module _ {A : Type 0} where
   none_laid (x ∷ xs) layouts are e = absurd (cc)
 
 module _ {K V P A : Type 0} (m : Meaning K V P) (s : Settings) where
-  -- a flusher has a batch where the model's has
+  -- the model's flusher has a batch if the flusher has one
   pub batched : (own : Option ℕ) (o : Option (Batch K V P A)) (p : Option (model_state.Batch Content)) → AreBatched m s own o p
       → (batch : Batch K V P A) → o ≡ Some batch → (it : model_state.Batch Content) × (p ≡ Some it) × IsBatchAs m s own batch it
   batched own None None are batch e = absurd (cc)

@@ -52,7 +52,7 @@ module _ (s : Settings) (f : ℕ) (it : model_state.State Content) where
       go None e = refl
       go (Some c) e = absurd (let clash : Some b ≡ None = sym own ∙ (has.ready c e).2 in cc)
 
-  -- the other flushers' blocks stay where this one leaves its own
+  -- the other flushers' blocks stay in their sets if this flusher leaves its own block
   pub released_others : (own : Option ℕ) → ((b : ℕ) → own ≡ Some b → it.place b ≡ model_state.Writes f) → (g c : ℕ) → (g ≡ f → ⊥)
       → it.place c ≡ model_state.Writes g → released own it.place c ≡ model_state.Writes g
   released_others None mine g c ne is = is

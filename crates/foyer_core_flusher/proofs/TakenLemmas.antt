@@ -98,7 +98,7 @@ size_of_records : (rs : List (model_record.Record Content)) → size_of (map kep
 size_of_records [] = size_none
 size_of_records (r ∷ rs) = omega (arith, size_cons (kept_of r) (map kept_of rs), size_of_records rs)
 
--- the index has a very address where the model's has
+-- the index has this very address exactly if the model's index has it
 very : (held : Option Index) (a : EntryAddress) → option_and_then indexed_at held ≡ Some a → model_index.holds (address_of a) (slot_of held) ≡ true
 very None a is = absurd (cc)
 very (Some (Address b)) a is = let same : b ≡ a = cc in ap (λ x. model_index.is_same (address_of a) (address_of x)) same ∙ same_itself (address_of a)
@@ -199,7 +199,7 @@ module _ {K V P A : Type 0} (m : Meaning K V P) (s : Settings) (sound : AreValid
       → TakesMemory (machine m s sound) st (st.flushers f) (st.flushers f).queue
   wait_takes id rest is = subst (TakesMemory (machine m s sound) st (st.flushers f)) (sym (stands.queue ∙ ap (map (submission_of m)) is)) tt
 
-  -- bytes have room just where the model says that they fit
+  -- bytes have room exactly if the model says that they fit
   bytes_agree : (bytes : List ℕ) → HasRoomFor φ.filled (length bytes) ↔ Fits (machine m s sound) st (st.flushers f) bytes
   bytes_agree bytes =
       let room : φ.filled.room ≡ buffer_room s = stands.room in
@@ -234,7 +234,7 @@ module _ {K V P A : Type 0} (m : Meaning K V P) (s : Settings) (sound : AreValid
       room = (bytes_agree r.slice.items).1 fits;
     }
 
-    -- it stays in front where memory was refused for it
+    -- it stays in front if memory was refused for it
     pub again_takes : IsPutAgain index r φ.filled → TakesMemory (machine m s sound) st (st.flushers f) (st.flushers f).queue
     again_takes put = subst (TakesMemory (machine m s sound) st (st.flushers f)) (sym again_queue) (held put, fits_again put)
 
@@ -307,7 +307,7 @@ module _ {K V P A : Type 0} (m : Meaning K V P) (s : Settings) (sound : AreValid
         after : model_state.Flusher Content
         after = record (st.flushers f) { queue = map (submission_of m) rest }
 
-  -- a record has room just where the model says that it fits
+  -- a record has room exactly if the model says that it fits
   agrees : (n : ℕ) (bytes : List ℕ) → length bytes ≡ 36 + n
       → ((36 + n ≤ left_of φ.filled) × (page_up (36 + n) ≤ φ.filled.greatest)) ↔ Fits (machine m s sound) st (st.flushers f) bytes
   agrees n bytes len = fits_agree (machine m s sound) st (st.flushers f) φ.filled n bytes (are_rules m.is_key m.is_value s sound) stands.room
@@ -337,7 +337,7 @@ module _ {K V P A : Type 0} (m : Meaning K V P) (s : Settings) (sound : AreValid
             (left a b both, right a b both, some_is e)
         go false has e = absurd (cc)
 
-    -- it stays in front where memory was refused for it
+    -- it stays in front if memory was refused for it
     pub piece_takes : TakesMemory (machine m s sound) st (st.flushers f) (st.flushers f).queue
     piece_takes = subst (TakesMemory (machine m s sound) st (st.flushers f)) (sym queue) tt
 
@@ -388,7 +388,7 @@ module _ {K V P A : Type 0} (m : Meaning K V P) (s : Settings) (sound : AreValid
             let has : has_record (content_of m p) ≡ true = both_true (flag ∙ both_true fits.encoded.0 fits.encoded.1) (both_true short_key short_value) in
             ap (λ t. if t then Some whole else None) has
 
-    -- or it doesn't fit, and is handed back: its mark is kept
+    -- or it doesn't fit, and is returned: its mark is kept
     pub piece_back : (new : Flusher K V P A) (marks : List Tombstone) (invalid : List Invalidated) (entered : IndexMap)
         → (FitsBuffer φ.filled compression.None ((a ≡ true) × (b ≡ true)) n → ⊥)
         → map mark_of marks ≡ map mark_of φ.marks ++ (p.piece.hash, sequence) ∷ []

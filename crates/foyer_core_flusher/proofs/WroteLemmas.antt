@@ -232,7 +232,7 @@ module _ {K V P A : Type 0} (m : Meaning K V P) (s : Settings) (sound : AreValid
       fails true new x rest e last is = (at.0, x, rest, at.1, e, last, is)
       fails false new x rest e last is = (at.0, x, rest, at.1, e, last, is)
 
-  -- and so it is where the code fails the batch, once it took the block that was written
+  -- and so it is if the code fails the batch after it took the block that was written
   pub wrote_fails : (ok : Bool) (ψ : Seen K V P A) (new : Managed) (idle : Batch K V P A) (answer : Answer) (slots' : IndexMap)
       → idle ≡ record batch { writing = None } → (ok ≡ true → w.left ≤ 1)
       → ((φ' : model_state.Flusher Content) (p : model_state.Batch Content) → IsFlusherAs m s (record φ { batch = Some idle }) φ'

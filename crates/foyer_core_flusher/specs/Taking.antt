@@ -71,7 +71,7 @@ abbrev pub and_piece : {K V P : Type 0} → Option (Referred K V P) → List (Re
 and_piece None pieces = pieces
 and_piece (Some piece) pieces = pieces ++ piece ∷ []
 
--- The very piece in front of the queue is handed back, or comes to those that were received; what else is taken leaves these as
+-- The very piece in front of the queue is returned, or joins those that were received. Whatever else is taken leaves these as
 -- they were.
 abbrev pub MovesPiece : {K V P A : Type 0} → List (Submission K V P A) → (old new : List (Referred K V P)) → Result (Taken K V P A) Error → Type 0
 MovesPiece queue old new (Ok (taken.Piece size (Some back))) = (front_piece queue ≡ Some back) × (new ≡ old)

@@ -1,4 +1,4 @@
-//! A flusher's batch, its writes, and what a flusher answers of them.
+//! A flusher's batch, its writes, and what a flusher answers about them.
 ghost use Rattle.std.specs.Prelude.{◌≡◌, [], Option, None, Some, true, false, length, MatchOption};
 ghost use Rattle.foyer_core_flusher.specs.Issuing.{written_bytes};
 ghost use Rattle.foyer_core_flusher.specs.Offsets.{BlockFits, blocks_fit_once};
@@ -77,7 +77,7 @@ pub struct Writing<A: Allocator> {
     pub left: usize,
     /// The records, each by its offset in the block.
     pub records: Vec<HashedEntryAddress, A>,
-    /// Of each the address that it was read from, if it was.
+    /// For each record, the address that it was read from, or `None` if it is a piece's.
     pub sources: Vec<Option<EntryAddress>, A>,
     ghost paired: { length sources.items ≡ length records.items },
 }
@@ -89,7 +89,7 @@ pub struct Batch<K, V, P, A: Allocator> {
     pub blocks: Vec<Block<A>, A>,
     /// The pages of all records, to be filled again once they are written.
     pub pages: IoSlice<A>,
-    /// Of the records of these blocks, in order, the address that each was read from, if it was.
+    /// For each record of these blocks, in order, the address that it was read from, or `None` if it is a piece's.
     pub sources: VecDeque<Option<EntryAddress>, A>,
     /// Whether the first of the blocks is the flusher's own.
     pub continues_own_block: bool,
@@ -106,7 +106,7 @@ pub struct Batch<K, V, P, A: Allocator> {
 /// The next block of a batch.
 #[derive(Drop)]
 pub enum Next<A: Allocator> {
-    /// None is clean.
+    /// No block may be handed out now. The flusher waits for one.
     NoBlock,
     /// This one, with its writes.
     Block(BlockId, Vec<Write<A>, A>),
@@ -115,9 +115,9 @@ pub enum Next<A: Allocator> {
 /// What a write's result led to.
 #[derive(Clone, Copy, Debug, PartialEq, Eq)]
 pub enum Wrote {
-    /// The block has another write.
+    /// Another write of the block is still to be reported.
     Next,
-    /// The block's records entered the index: so many are puts.
+    /// The block's records entered the index. The number is how many of them are puts.
     Committed(usize),
     /// The batch failed.
     Failed,

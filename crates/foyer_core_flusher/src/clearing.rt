@@ -18,7 +18,7 @@ pub fn are_idle<K, V, P, A: Allocator>(flushers: &[Flusher<K, V, P, A>]) -> bool
     true
 }
 
-/// A destroy leaves the flushers without blocks, and their splitters fresh. The blocks are the manager's to take.
+/// Leaves each flusher without a block and with a fresh splitter, for a destroy. It takes no block from the manager.
 pub fn clear_all<K, V, P, A: Allocator>(flushers: &mut [Flusher<K, V, P, A>])
     ensures { map seen flushers.new ≡ map cleared (map seen flushers.old) }
 {

@@ -18,7 +18,7 @@ fn settle<A: Allocator>(records: &mut Vec<HashedEntryAddress, A>, block: BlockId
     }
 }
 
-// Enters the records of a block into the index, and gives how many are puts. Gives None if the index has to grow and can't.
+// Enters the records of a block into the index, and gives how many are puts. Gives `None` if memory for the index is refused.
 pub(crate) fn commit<A: Allocator + Clone>(
     mut records: Vec<HashedEntryAddress, A>,
     sources: &[Option<EntryAddress>],

@@ -55,7 +55,7 @@ impl<A: Allocator> Model for Filled<A> {
         × IsState f.room f.greatest f.state };
 }
 
-// So many bytes, zeroed.
+// Gives `room` bytes, zeroed. Errors: `Memory`.
 fn new_pages<A: Allocator>(alloc: A, room: usize) -> Result<IoSliceMut<A>>
     requires { room % 4096 ≡ 0 }
     ensures room { IfOk result (λ m. length m ≡ room) }
@@ -100,8 +100,8 @@ fn copy_over<A: Allocator>(pages: &mut IoSliceMut<A>, bytes: &[u8])
     pages.as_mut_slice().copy_from_slice(bytes);
 }
 
-// Gives the pages for one owner. If they have no other owner, it gives them as they are, else a copy. If memory for the copy is refused,
-// the pages are handed back.
+// Gives the pages to one owner. If they have no other owner, it gives them as they are, else a copy. If memory for the copy is refused, it
+// returns the pages as `Err`.
 fn own<A: Allocator + Clone>(
     alloc: &A,
     spare: &mut Option<IoSliceMut<A>>,
@@ -241,7 +241,7 @@ fn push_open<K: Code<A>, V: Code<A>, A: Allocator>(
     buffer.push(key, value, hash, Compression::None, sequence)
 }
 
-// Appends bytes that are some.
+// Appends bytes, at least one.
 fn push_bytes<A: Allocator>(
     buffer: &mut Buffer<A>,
     slice: &[u8],
@@ -262,8 +262,8 @@ fn push_bytes<A: Allocator>(
 }
 
 impl<A: Allocator> Filled<A> {
-    /// No records, in `room` bytes, which are whole pages; a record takes at most `greatest` with its padding. It
-    /// doesn't allocate.
+    /// Gives a buffer of `room` bytes without records. A record takes at most `greatest` bytes with its padding. `room` must be whole
+    /// pages, and `greatest` below 2^32. It doesn't allocate.
     pub fn new(room: usize, greatest: usize) -> Filled<A>
         requires pages { room % 4096 ≡ 0 }
         requires small { greatest < 2 ^ 32 }
@@ -307,7 +307,7 @@ impl<A: Allocator> Filled<A> {
         }
     }
 
-    /// No records again. It doesn't allocate.
+    /// Removes all records. It doesn't allocate.
     pub fn reset(&mut self)
         ensures { self.new ≡ record self.old { entries = [] } }
     {
@@ -327,7 +327,7 @@ impl<A: Allocator> Filled<A> {
         len <= self.left() && whole_pages(len) <= self.greatest
     }
 
-    /// Whether a record of so many bytes has room.
+    /// Whether a record of `len` bytes has room. A record of no bytes has none.
     pub fn has_room_for(&self, len: usize) -> bool
         ensures { IsTrue result ↔ HasRoomFor self.now len }
     {
@@ -367,7 +367,7 @@ impl<A: Allocator> Filled<A> {
         pushed
     }
 
-    // Takes the pages with their entries, for one owner, or opens some. Memory leaves it.
+    // Takes the pages with their entries, for one owner, or opens new pages. Errors: `Memory`, which leaves the records as they were.
     fn take_buffer(&mut self, alloc: &A, spare: &mut Option<IoSliceMut<A>>) -> Result<Buffer<A>>
     where
         A: Clone,

@@ -47,7 +47,7 @@ pub struct Flusher<K, V, P, A: Allocator> {
     pub queue: VecDeque<Submission<K, V, P, A>, A>,
     /// The records that were received.
     pub filled: Filled<A>,
-    /// Of each of them the address that it was read from, if it was.
+    /// For each of these records, the address that it was read from, or `None` if it is a piece's.
     pub sources: VecDeque<Option<EntryAddress>, A>,
     /// Pages of a batch that was written, to be filled next.
     pub spare: Option<IoSliceMut<A>>,
@@ -61,7 +61,7 @@ pub struct Flusher<K, V, P, A: Allocator> {
     pub waits: Vec<u64, A>,
     /// The position at which the next batch's data begin.
     pub context: SplitCtx<A>,
-    /// The block that it goes on with.
+    /// The block in which its next batch continues, if there is one.
     pub own: Option<BlockId>,
     /// What it writes, if it does.
     pub batch: Option<Batch<K, V, P, A>>,
@@ -95,7 +95,7 @@ impl<K, V, P, A: Allocator> Flusher<K, V, P, A> {
     ghost use Rattle.foyer_core_flusher.specs.Idle.{idle};
     ghost use Rattle.foyer_core_flusher.specs.Seen.{is_still, seen};
 
-    /// A flusher that has nothing, in a core of these sizes. `Memory` alone.
+    /// Gives a flusher that has nothing, in a core of these sizes, which `Settings::check` must accept. Errors: `Memory`.
     pub fn new(alloc: &A, settings: &Settings) -> Result<Flusher<K, V, P, A>>
     where
         A: Clone,
@@ -142,8 +142,8 @@ impl<K, V, P, A: Allocator> Flusher<K, V, P, A> {
         }
     }
 
-    /// Whether less than half of its buffer's room is left: whoever drives it begins a flush then, so that no piece of
-    /// at most half of the room is handed back.
+    /// Whether less than half of its buffer's room is left. Whoever drives the flusher begins a flush then. If it does so before the next
+    /// `receive`, no record of at most half of the room lacks room in the buffer.
     pub fn wants_flush(&self) -> bool
         ensures { IsTrue result ↔ (2 * left_of self.now.filled < self.now.filled.room) }
     {
@@ -151,7 +151,7 @@ impl<K, V, P, A: Allocator> Flusher<K, V, P, A> {
         self.filled.left() < room - room / 2
     }
 
-    /// Whether nothing is queued, received or in a batch: a flush of it would write nothing but an empty index.
+    /// Whether nothing is queued, received or in a batch.
     pub fn is_idle(&self) -> bool
         ensures { result ≡ is_still self.now }
     {
@@ -204,9 +204,10 @@ impl<K, V, P, A: Allocator + Clone> Flusher<K, V, P, A> {
     ghost use Rattle.foyer_core_flusher.specs.Seen.{seen};
     ghost use Rattle.foyer_core_flusher.specs.Taking.{MovesPiece, TakesFront};
 
-    /// Takes the front of the queue. A piece that has no room, or whose code fails, is handed back. A mark of its sequence enters the index and
-    /// is kept in the piece's place. A record that was read back is dropped if it has no room. It is also dropped if the index hasn't the very
-    /// address that it was read from. Errors: `Memory` if an allocation was refused. Then what the allocation was for stays at the front.
+    /// Takes the front of the queue. It returns a piece that has no room, or whose code fails. Then a mark of the piece's sequence enters
+    /// the index, and is kept in the piece's place. It drops a record that was read back if the record has no room. It also drops such a
+    /// record if the index doesn't have the very address that the record was read from. Errors: `Memory` if an allocation was refused. Then
+    /// what the allocation was for stays at the front.
     pub fn receive(&mut self, alloc: &A, index: &mut Indexer<A>) -> Result<Taken<K, V, P, A>>
     where
         K: Code<A>,
@@ -354,9 +355,10 @@ impl<K, V, P, A: Allocator + Clone> Flusher<K, V, P, A> {
         }
     }
 
-    /// Issues the batch's next block. That is the flusher's own block, if the batch goes on with it. Else the flusher begins the block that it
-    /// was given while it waited, or the one that has been clean longest. Then its block before is evictable, and the pickers learn of it.
-    /// Nothing is copied. Errors: `Memory` if an allocation was refused. Nothing changes then, except that room may have been made.
+    /// Issues the batch's next block, which must be there. It is the flusher's own block, if the batch goes on with that. Else the
+    /// flusher's own block becomes evictable, and the pickers are notified of it. The flusher then begins the block that it was given while
+    /// it waited, or the one that has been clean longest. If there is none, the answer is `NoBlock`, and the flusher waits. No record is
+    /// copied. Errors: `Memory`, which changes nothing.
     pub fn next<E: EvictionPicker>(
         &mut self,
         alloc: &A,

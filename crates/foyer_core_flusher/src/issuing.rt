@@ -98,7 +98,7 @@ fn first_sources<A: Allocator>(
     Ok(first)
 }
 
-// The first sources leave, so many.
+// Removes the first `count` sources.
 fn drop_sources<A: Allocator>(sources: &mut VecDeque<Option<EntryAddress>, A>, count: usize)
     ensures { sources.new.items ≡ drop count sources.old.items }
 {
@@ -199,8 +199,8 @@ fn begin_writing<A: Allocator>(
     })
 }
 
-/// What the next block of a batch is issued with: its records, as they are to be indexed, of each the address that it was read
-/// from, if it was, and room for its writes.
+/// What the next block of a batch is issued with: its records, as they are to be indexed, and room for its writes. For each record there is
+/// the address that it was read from, or `None` if it is a piece's.
 #[derive(Drop)]
 pub struct Prepared<A: Allocator> {
     pub records: Vec<HashedEntryAddress, A>,
@@ -209,7 +209,7 @@ pub struct Prepared<A: Allocator> {
 }
 
 impl<K, V, P, A: Allocator + Clone> Batch<K, V, P, A> {
-    /// Makes what the next block is issued with. Errors: `Memory` if an allocation was refused.
+    /// Makes what the next block is issued with. The batch must have a block left. Errors: `Memory` if an allocation was refused.
     pub fn prepare(&self, alloc: &A) -> Result<Prepared<A>>
         requires { self.now.blocks.items ≢ [] }
         ensures ready { IfOk result (λ p. IsReady self.now p.records p.sources p.writes) }
@@ -229,9 +229,9 @@ impl<K, V, P, A: Allocator + Clone> Batch<K, V, P, A> {
         })
     }
 
-    /// The next block of the batch goes into this block, of so many bytes: gives its writes. Of each part these are its
-    /// data, a page of zeros behind them if the block has room, and then the index that lists them. Nothing is copied, and
-    /// it doesn't allocate.
+    /// Issues the next block of the batch into the block `block` of `block_size` bytes, and gives its writes. For each part these are its
+    /// data, a page of zeros after them if the block has room, and then the index that lists them. `prepared` must be what `prepare` gave
+    /// for this batch, and no block of the batch may be being written. Nothing is copied, and it doesn't allocate.
     pub fn issue(
         &mut self,
         block: BlockId,

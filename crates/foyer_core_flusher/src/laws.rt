@@ -2,12 +2,12 @@
 ghost use Rattle.foyer_core_flusher.specs.BatchBegun.{BeginsAsModel};
 ghost use Rattle.foyer_core_flusher.specs.BlockIssued.{IssuesAsModel};
 
-/// A batch that began is the model's, laid out by the splitter.
+/// A batch that `Flusher::begin` makes is the model's, laid out as the splitter does it.
 pub fn begins_as_model<K, V, P, A>()
     ensures { BeginsAsModel K V P A }
 {}
 
-/// The next block of a batch that was issued is the model's, with its very writes, data before their index.
+/// What `Batch::issue` gives are the model's writes of the batch's next block, in their order, the data of a part before its index.
 pub fn issues_as_model<K, V, P, A>()
     ensures { IssuesAsModel K V P A }
 {}

@@ -20,7 +20,7 @@ use foyer_block_manager::block::manager::BlockManager;
 use foyer_core_blocks::manager::{Invalidated, invalidate_all};
 use std::alloc::Allocator;
 
-// What marks made invalid counts, unless the log failed to take them: an opening finds what they deleted again then.
+// Counts what marks made invalid, unless the log failed to take the marks. In that case an opening may find again what they deleted.
 pub(crate) fn invalidate_unless<A: Allocator>(
     logged: Option<bool>,
     manager: &mut BlockManager<A>,

@@ -34,7 +34,8 @@ fn invalid_stats(address: &EntryAddress) -> Invalidated
     }
 }
 
-/// Puts the mark of a hash into the index, and gives it with what it made invalid. `Memory` alone.
+/// Inserts the mark of a hash into the index, and gives the mark with the bytes that it made invalid, if any. Errors: `Memory`. Then each
+/// hash has what it had.
 pub fn enter_mark<A: Allocator + Clone>(
     index: &mut Indexer<A>,
     hash: u64,

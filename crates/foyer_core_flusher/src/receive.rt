@@ -45,7 +45,7 @@ pub enum Taken<K, V, P, A: Allocator> {
     Nothing,
     /// A mark, a record that was read back, or a wait.
     Other,
-    /// A piece that stood in the queue with this size in bytes. It is handed back if it doesn't fit.
+    /// A piece that was queued with this size in bytes. The piece is returned if it has no room or its code fails.
     Piece(usize, Option<PieceRef<K, V, P, A>>),
 }
 
@@ -100,8 +100,8 @@ pub(crate) fn put_piece<K: Code<A>, V: Code<A>, P, A: Allocator + Clone>(
     )
 }
 
-// Appends a record that was read back, with the address that it was read from. It does so only if the index still has it there and it has
-// room.
+// Appends a record that was read back, with the address that it was read from. It does nothing if the index no longer has that address for
+// the hash, or if the record has no room.
 pub(crate) fn put_reinsertion<A: Allocator + Clone>(
     alloc: &A,
     filled: &mut Filled<A>,
@@ -157,7 +157,8 @@ pub(crate) fn put_mark<A: Allocator>(
     Ok(())
 }
 
-// Puts the mark of a piece that is handed back into the index, and appends it with what it made invalid, if it did.
+// Enters the mark of a returned piece into the index, and appends the mark to `marks`. If the mark made bytes invalid, it appends these to
+// `invalid`.
 pub(crate) fn put_returned<A: Allocator + Clone>(
     marks: &mut Vec<Tombstone, A>,
     invalid: &mut Vec<Invalidated, A>,

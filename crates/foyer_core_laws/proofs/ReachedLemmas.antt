@@ -311,7 +311,7 @@ module _ (is_key is_value : List ℕ → Bool) (s : Settings) (sound : AreValid 
   may7 : May (after rules w6 e6) e7
   may7 = (refl, (omega arith, (omega arith, (record writing { left = index_left }, refl)), (block_done rules c5 0 last_issued (record writing { left = index_left }), (record writing { left = index_left }, _, refl, refl, refl, refl), refl)))
 
-  -- the index stands where it was written
+  -- the index is stored where it was written
   index_there : index ≡ read (w7.bytes 0) 0 4096
   index_there = subst (λ k. index ≡ read (w7.bytes 0) 0 k) sealed.len
       (sym (read_whole (record { role = Index; offset = 0; bytes = index }) (laid (record { role = Data; offset = 4096; bytes = content }) (λ o. 0))))

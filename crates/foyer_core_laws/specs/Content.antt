@@ -42,7 +42,7 @@ contents_of (p ∷ ps) = p.1 ∷ contents_of ps
 abbrev pub content_of : {K V P : Type 0} → Meaning K V P → Referred K V P → Content
 content_of m piece = content m piece.piece.key piece.piece.value
 
--- of a piece that is handed back, if one is
+-- the content of a piece that is returned, if one is
 abbrev pub returned : {K V P : Type 0} → Meaning K V P → Option (Referred K V P) → Option Content
 returned m None = None
 returned m (Some piece) = Some (content_of m piece)

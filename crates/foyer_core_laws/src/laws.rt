@@ -10,8 +10,8 @@ ghost use Rattle.foyer_core_laws.specs.CoreRules.{rules_of, layout, IsEncoded};
 ghost use Rattle.foyer_core_settings.specs.Sizes.{AreValid};
 ghost use Rattle.foyer_core_settings.specs.declared.settings.Settings.{Settings};
 
-/// What the laws ask of codes and layout holds of every code and of the plain layout: a record's bytes read back as
-/// its pair, and after its writes each record stands where it was placed.
+/// The laws' demands hold of every code, and of the layout of all sizes that go together. The bytes of a record read back as its content,
+/// and after the writes of its block each record is where it was placed. Records that fit into a block can always be placed.
 pub fn demands_are_met()
     ensures demands { (is_key is_value : List ℕ → Bool) (s : Settings) (sound : AreValid s)
         → Demands (rules_of is_key is_value s sound) (layout s) (IsEncoded is_key is_value) }
@@ -19,15 +19,15 @@ pub fn demands_are_met()
         → PlacesAll (rules_of is_key is_value s sound) (layout s) }
 {}
 
-/// The headline: whatever steps come, and whatever reads, writes and allocations fail, a load answers only the record
-/// that was newest of its hash at its look-up; a newest committed record is missed only for a named cause; an opening
-/// begins such a world; and what is queued, committed, reclaimed and put off keeps its clause.
+/// The headline holds whatever steps are applied, and whichever reads, writes and allocations fail. A load answers only the record that was
+/// newest of its hash at its look-up. A newest committed record is missed only for a cause that `MissedNewest` names. What an opening finds
+/// begins a world of which these laws hold. Queueing, commits, reclaims and refusals keep their clauses.
 pub fn headline()
     ensures { (is_key is_value : List ℕ → Bool) (s : Settings) (sound : AreValid s) → IsHeadline is_key is_value s sound }
 {}
 
-/// Whatever steps come, and whatever reads and writes do, a load answers only the record that was newest of its hash
-/// at its look-up.
+/// Whatever steps are applied, and whichever reads and writes fail, a load answers only the record that was newest of its hash at its
+/// look-up.
 pub fn answers_only()
     ensures entry { (is_key is_value : List ℕ → Bool) (s : Settings) (sound : AreValid s)
         → AnswersOnly (rules_of is_key is_value s sound) (layout s) (IsEncoded is_key is_value) }
@@ -35,7 +35,9 @@ pub fn answers_only()
         → AnswersNewest (rules_of is_key is_value s sound) (layout s) (IsEncoded is_key is_value) }
 {}
 
-/// A newest committed record is answered, unless the load was throttled, its read failed, or memory was refused.
+/// A newest committed record is answered, unless the load was throttled, its read failed, or memory was refused. Exception: since the
+/// record's last commit, a reclaim of its block began, or a destroy cleared the index. A recovered record that is broken is a miss. One
+/// that isn't supported or doesn't decode is refused. After 2^64 - 1 steps each step is refused.
 pub fn missed_only()
     ensures load { (is_key is_value : List ℕ → Bool) (s : Settings) (sound : AreValid s)
         → MissedOnly (rules_of is_key is_value s sound) (layout s) (IsEncoded is_key is_value) }
@@ -43,14 +45,14 @@ pub fn missed_only()
         → MissedNewest (rules_of is_key is_value s sound) (layout s) (IsEncoded is_key is_value) }
 {}
 
-/// Each put of the history is what the Enqueue that got its sequence handed in.
+/// Each put in the history was recovered by the opening, or has the content of the Enqueue that was queued under its hash and sequence.
 pub fn puts_are_queued()
     ensures { (is_key is_value : List ℕ → Bool) (s : Settings) (sound : AreValid s)
         → PutsAreQueued (rules_of is_key is_value s sound) (layout s) (IsEncoded is_key is_value) }
 {}
 
-/// A piece is ignored or handed back only if it may be. What was received is laid out, issued, and put when its block is written. A step is
-/// handed back only out of turn or for its cause.
+/// The clauses `queue_clause`, `commit_clause` and `not_now_clause` of `foyer_core_model` hold. The state afterwards is determined by the
+/// state before, the step and the reply. Before the limit of steps, each step in turn has a reply other than `NotNow`.
 pub fn steps_keep_their_clauses()
     ensures queue { (is_key is_value : List ℕ → Bool) (s : Settings) (sound : AreValid s)
         → QueueKeeps (rules_of is_key is_value s sound) (layout s) }

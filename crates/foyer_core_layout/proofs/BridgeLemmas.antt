@@ -77,7 +77,7 @@ module _ {C : Type 0} where
       let rest : bytes_taken page_up rs ≡ taken is = stand_taken whole (start + page_up i.len) is rs stand.4 in
       omega (arith, taken_cons i is)
 
-  -- where some go into a part, and the others don't
+  -- if some records go into a part, and the others don't
   pub record Parted (whole : List ℕ) (start : ℕ) (now rest : List BufferEntryInfo) (rs : List (Record C)) : Type 0 where
     pub first : List (Record C)
     pub others : List (Record C)
@@ -112,7 +112,7 @@ module _ {C : Type 0} where
       stand_entries whole (start + page_up i.len) (at + page_up i.len) is rs stand.4 in
       rw (entries_cons at i is, stand.0, stand.1, stand.3, rest) refl
 
-  -- where its entries say that its records stand
+  -- a part's entries say where its records lie
   pub stand_placed : (whole : List ℕ) (start base at : ℕ) (is : List BufferEntryInfo) (rs : List (Record C)) → StandAt whole start is rs
       → AreEntriesOf base (buffered.entries_from at is) (laid_from (base + at) rs)
   stand_placed whole start base at [] [] stand = subst (λ l. AreEntriesOf {C = C} base l []) (sym (entries_none at)) tt
@@ -170,7 +170,7 @@ module _ {C : Type 0} where
       pub others_are : AreBlocksAs blocks others
       pub last : last_end end others ≡ position_of g
 
-    -- where the present part takes no more
+    -- if the present part takes no more
     record LaidLeft (f : buffered.Position) (rs : List (Record C)) (parts : List (BlobPart A)) (blocks : List (List (BlobPart A))) (g : buffered.Position) : Type 0 where
       pub qs : List (Part C)
       pub end : Position

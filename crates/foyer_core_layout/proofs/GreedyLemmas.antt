@@ -80,7 +80,7 @@ module _ {C : Type 0} where
   listable_rest s [] rest all = all
   listable_rest s (r ∷ now) rest all = listable_rest s now rest all.1
 
-  -- where they lie within 4 GiB behind an index, each number of their entries fits its field
+  -- if records lie within 4 GiB after an index, each number of their entries fits its field
   entries_fit : (s : Sizes) (at : ℕ) (rs : List (Record C)) → 0 < at → at + bytes_taken page_up rs ≤ 2 ^ 32 → AllListable s rs → AllFitEntry (entries_from at rs)
   entries_fit s at [] past within all = tt
   entries_fit s at (r ∷ rs) past within all =
@@ -164,7 +164,7 @@ module _ {C : Type 0} where
           }) l.left;
         }
 
-    -- one record more in the part: where that fills the index, the next blob begins
+    -- one more record in the part: if that fills the index, the next blob begins
     append : (f : Position) (now : List (Record C)) (r : Record C) (rest : List (Record C)) → Goes f now → IsListable s r → length f.listed + length now < capacity_of s.index
         → tail_of f + bytes_taken page_up now + page_up (length r.bytes) ≤ s.block
         → ((g : Position) (more : List (Record C)) → Goes g more → length g.listed + length more < capacity_of s.index → Found g (more ++ rest))
@@ -247,7 +247,7 @@ module _ {C : Type 0} (rules : Rules C) (are : AreRules rules) (small : rules.bl
   all_listable (r ∷ rs) widths fit =
       (record { widths = widths.0; some = (fit.0).0; fits = omega (arith, (fit.0).1, are.pages (length r.bytes)) }, all_listable rs widths.1 fit.1)
 
-  -- a batch may begin where another entry has room and each one that is listed fits its fields
+  -- a batch may begin only if another entry has room and each entry that is listed fits its fields
   begins : {f : Position} → MayBegin rules (IsLaidOut (sizes_of rules)) f → MayGoOn (sizes_of rules) f × AllFitEntry f.listed
   begins empty_block = (record { past = omega arith; room = omega (arith, rules.index_holds_page) }, tt)
   begins (after_batch {f = f} {records = rs} {blocks = []} may widths fit split) = absurd split

@@ -48,7 +48,7 @@ module _ {C : Type 0} where
   behind_join n [] qs a b = b
   behind_join n (p ∷ ps) qs a b = (a.0, behind_join n ps qs a.1 b)
 
-  -- where their bytes stand, records stand
+  -- records are stored if their bytes are
   pub bytes_stand : (g : ℕ → ℕ) (n : ℕ) (D : List ℕ) (rs : List (Record C)) → ((i : ℕ) → i < length D → g (n + i) ≡ slice_index D i)
       → AreBytesOf D rs → AllStand g (laid_from n rs)
   bytes_stand g n D [] there are = tt

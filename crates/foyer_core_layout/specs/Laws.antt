@@ -18,7 +18,7 @@ use Rattle.foyer_core_model.specs.State.{State, Flusher}
 use Rattle.foyer_core_layout.specs.Bridge.{position_of, kept_of, AreBlocksAs}
 use Rattle.foyer_core_layout.specs.Splits.{MayGoOn, IsLaidOut, AreRules, LiesWithin}
 
--- after its writes, over any bytes, each record stands where it was placed, and no later write falls into its pages
+-- after a placing's writes, over any bytes, each record is stored where it was placed, and no later write falls into its pages
 abbrev pub KeepsAll : Type 0 → Type 0
 KeepsAll C = (rules : Rules C) → AreRules rules → KeepsRecords rules (IsLaidOut (sizes_of rules))
 

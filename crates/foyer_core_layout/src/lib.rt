@@ -1,21 +1,22 @@
-//! The splitter's layout as the model sees it: a way of laying records out, what it keeps, and that a split batch is one.
+//! The splitter's layout as the model sees it: a way of laying records out, and what it keeps. A split batch is laid out so.
 #![tactic(auto)]
 
 ghost use Rattle.foyer_core_layout.specs.Laws.{KeepsAll, PlacesEach, GoesOn, BatchIsLaidOut, FitsAgree, AllWithin};
 
 use std::alloc::Allocator;
 
-/// After its writes, over any bytes, each record stands where it was placed, and no later write falls into its pages.
+/// After the writes of its block, over any bytes, each record is where it was placed. No later write of the same filling falls into its
+/// pages.
 pub fn keeps_records<C>()
     ensures { KeepsAll C }
 {}
 
-/// Records that fit into a block can be placed from each position at which a batch may begin.
+/// In blocks of at most 2^32 bytes, records that fit into a block can be placed from each position at which a batch may begin.
 pub fn places_all<C>()
     ensures { PlacesEach C }
 {}
 
-/// A placing leaves a filling from which another may go on.
+/// The position at which a layout ends is one from which another layout may begin.
 pub fn goes_on<C>()
     ensures { GoesOn C }
 {}

@@ -257,7 +257,7 @@ module _ {C : Type 0} (rules : Rules C) where
   )
   fits_ended bytes r (InFlight b rs v ws) false k fits = (fits.0, left_failed rs v ws r.left fits.1, λ well. absurd (not_well rs well))
 
-  -- where a flusher writes
+  -- a write that ends changes no block except the one that the flusher writes
   ended_elsewhere : (bytes : ℕ → ℕ → ℕ) (pending : BlockWrites) (ok : Bool) (k : ℕ → ℕ) (c : ℕ)
       → ((b : ℕ) (rs : List Bool) (v : Write) (ws : List Write) → pending ≡ InFlight b rs v ws → c ≡ b → ⊥) → bytes_ended ok k pending bytes c ≡ bytes c
   ended_elsewhere bytes Idle ok k c far = refl

@@ -60,7 +60,7 @@ module _ {C : Type 0} (rules : Rules C) where
     behind,
   )
 
-  -- the records of a block that is issued, or of none where there is nothing to write
+  -- the records of a block that is issued, or of none if there is nothing to write
   pub records_issued : (P : List (Record C) → Type 0) (b : ℕ) (ws : List Write) (ps : List (ℕ × Record C)) (rest : List (Record C))
       → ((x y : List (Record C)) → P (x ++ y) → P y)
       → P (map (λ p. p.1) ps ++ rest) → P (map (λ p. p.1) (placed_in (writing_of b ws ps)) ++ rest)

@@ -155,7 +155,7 @@ module _ {C : Type 0} (rules : Rules C) where
       absurd (let e : v ∷ ws ≡ [] = none.1 in cc)
   last_stands bytes r last (InFlight b (false ∷ rs) v ws) is left fits = absurd (let e : Some false ≡ Some true = is in cc)
 
-  -- FlushWrote, where more writes follow
+  -- FlushWrote, if more writes follow
   pub wrote_one : (w : World C) (f : ℕ) (batch : Batch C) (r : Writing C) (first second : Write) (rest : List Write)
       → WorldInvariant rules w → (w.core.flushers f).batch ≡ Some batch → batch.writing ≡ Some r → r.left ≡ first ∷ second ∷ rest → result_of (w.block_writes f) ≡ Some true
       → WorldInvariant rules (record w {

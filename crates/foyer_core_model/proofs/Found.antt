@@ -44,7 +44,7 @@ kept_is {C} b n (p ∷ ps) m kept =
     one (Given c) slot = refl
     one (Reread a) slot = again (holds a slot)
 
--- the newest record of a hash, if its block is kept, is indexed where its block is in the same filling
+-- the newest record of a hash, if its block is kept, is indexed in that block and in the block's present filling
 abbrev pub Found : {C : Type 0} → List (Event C) → (ℕ → ℕ) → ℕ → Option ℕ → Option Slot → Type 0
 Found {C} H filling h kept slot =
     (b s : ℕ) (x : Outcome C) → kept ≡ Some b → newest h H ≡ Some (Put h s x) → (x ≡ NoRecord → ⊥)

@@ -30,7 +30,7 @@ module _ {C : Type 0} (rules : Rules C) where
             };
       }
 
-  -- writes within where writes may fall spare what they may not touch
+  -- writes that stay where writes may fall spare what they may not touch
   pub within_spares : (a : Address) (P : ℕ → Type 0) (ws : List Write) → AllWithin P ws → ((o : ℕ) → InPages rules a o → P o → ⊥) → Each (Spares rules a) ws
   within_spares a P [] within shut = tt
   within_spares a P (w ∷ ws) within shut = (

@@ -200,7 +200,7 @@ AllWell [] = Unit {0}
 AllWell (true ∷ results) = AllWell results
 AllWell (false ∷ results) = ⊥
 
--- where no write failed, the records stand once the writes that are left are done
+-- if no write failed, the records are stored once the writes that are left are done
 abbrev pub WritesFit : {C : Type 0} → (ℕ → ℕ → ℕ) → Writing C → BlockWrites → Type 0
 WritesFit bytes r Idle = ⊥
 WritesFit bytes r (Issued b results ws) = (b ≡ r.block) × AreLeft results ws r.left × (AllWell results → AllStand (all_laid ws (bytes r.block)) r.records)
@@ -213,7 +213,7 @@ WritingOk rules g own (Some r) pending =
     × AllOutside rules.page_up (MayWrite rules.index_size (g.filled r.block)) r.records
     × AllBehind rules.index_size r.records
 
--- where the next block of a batch goes on
+-- where the next block of a batch continues
 abbrev pub start_of : {C : Type 0} → Rules C → (ℕ → Position) → Option ℕ → Bool → Position
 start_of rules filled None continues_own_block = first_position rules
 start_of rules filled (Some b) false = first_position rules

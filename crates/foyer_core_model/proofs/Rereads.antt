@@ -233,7 +233,7 @@ module _ {C : Type 0} (rules : Rules C) where
       subst (λ slot. SlotOk rules (ground_of w) w.block_writes w.history h (line_of (w.core.flushers (flusher_of rules h))) slot) is (sound.slots h (flusher_of rules h) refl) in
       (ok.0, ok.1, (ok.2).solid fill)
 
-  -- each record that is read keeps its fact where its address is solid
+  -- each record that is read keeps its fact if its address is solid
   scan_maps : (w : World C) (g : Ground) (b h : ℕ) (a : Address) (f : ℕ → ReadState → ReadState) (scan : Option Scan) → a.block ≡ b → a.filling ≡ w.core.filling b
       → WorldInvariant rules w
       → ((s : Scan) (x : Outcome C) → scan ≡ Some s → s.offset ≡ a.offset → s.len ≡ rules.page_up a.len → IsSolid rules (ground_of w) w.block_writes h a x → ReadStateHolds rules (ground_of w) a s.read_state → ReadStateHolds rules g a (f b s.read_state))

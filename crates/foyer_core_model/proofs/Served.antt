@@ -30,8 +30,8 @@ use Rattle.foyer_core_model.proofs.Invariant.{writing_in, goes_on_in}
 use Rattle.foyer_core_model.proofs.FlushEnds.{failed}
 use Rattle.foyer_core_model.proofs.Widths.{event_wide, opened_wide}
 
--- its own block where a batch goes on in it, a write where a block is written, records that fit into a block, and a
--- splitter that goes on where a batch may begin
+-- The flusher has its own block if its batch continues in it, and writes are left if a block is written. The buffer's records
+-- fit into a block, and the splitter continues where a batch may begin.
 pub record IsServed {C : Type 0} (rules : Rules C) (Splits : Splitting C) (φ : Flusher C) : Type 0 where
   pub owner : goes_on_in φ.batch ≡ true → (b : ℕ) × (φ.own ≡ Some b)
   pub some : (w : Writing C) → writing_in φ.batch ≡ Some w → w.left ≢ []

@@ -89,7 +89,7 @@ module _ {C : Type 0} (rules : Rules C) where
     filling = λ b. let le : c.filling b ≤ c.steps = sets.filling b in omega arith;
   }
 
-  -- a clean block stays in its set where a flusher leaves its own
+  -- a clean block stays in its set if a flusher leaves its own block
   released_clean : (c : State C) (f : ℕ) (own : Option ℕ) → ((b : ℕ) → own ≡ Some b → c.place b ≡ Writes f) → (d : ℕ) → c.place d ≡ Clean → released own c.place d ≡ Clean
   released_clean c f None owned d is = is
   released_clean c f (Some b) owned d is =
@@ -226,7 +226,7 @@ module _ {C : Type 0} (rules : Rules C) where
       })
   picks_sets c new reply ok sets = absurd ok
 
-  -- where the sets stay as they are
+  -- if the sets stay as they are
 
   alike : (c new expr : State C) → new ≡ expr → AreSets rules (record expr { steps = c.steps + 1 }) → AreSets rules (record new { steps = c.steps + 1 })
   alike c new expr eq ok = subst (λ k. AreSets rules (record k { steps = c.steps + 1 })) (sym eq) ok

@@ -11,7 +11,7 @@ use Rattle.foyer_core_model.specs.Opened.{idle, full_filling, IsOpened}
 use Rattle.foyer_core_model.specs.SmallCore.{small}
 use Rattle.foyer_format_layout.proofs.BlockBytesLaws.{laid_beside}
 
--- what a fact speaks of, where it is there
+-- what a fact is about, if it is there
 
 abbrev pub empty : Position
 empty = first_position small
@@ -119,7 +119,7 @@ opened = record {
   clean_states = λ b. refl;
 }
 
--- what stands where the first index may be: zeros
+-- what is stored where the first index may be: zeros
 
 pub zeros : ℕ → List ℕ
 zeros zero = []

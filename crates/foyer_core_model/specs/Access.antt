@@ -29,7 +29,7 @@ pub data ReadState : Type 0 where
   ReadDone : ReadResult → ReadState
 
 -- the read that a LoadBegin issued: the newest event of its hash at that moment, and the block of that event's commit,
--- unless a reclaim of it or a destroy began since
+-- unless a reclaim of it began or a destroy cleared the index since
 pub record Load (C : Type 0) : Type 0 where
   pub ticket : Ticket
   pub promise : Option (Event C)
@@ -129,12 +129,12 @@ clean_covers clean_state o = false
 
 -- a read begins, a write or a clean begins during it, and it ends
 
--- a read begins, and notes where writes are under way
+-- a read begins, and notes where writes and cleans are under way
 abbrev pub begun : (ℕ → ℕ → Bool) → ℕ → ReadState → ReadState
 begun covers b ReadIssued = Reading (covers b)
 begun covers b read_state = read_state
 
--- a write begins meanwhile
+-- a write or a clean begins meanwhile
 abbrev pub read_torn : (ℕ → ℕ → Bool) → ℕ → ReadState → ReadState
 read_torn covers b (Reading seen) = Reading (λ o. seen o || covers b o)
 read_torn covers b read_state = read_state
@@ -198,14 +198,14 @@ abbrev pub bytes_cleaned : Bool → (ℕ → ℕ) → ℕ → CleanState → (�
 bytes_cleaned ok g b CleanInFlight bytes = put bytes b (if ok then cleaned_page (bytes b) else g)
 bytes_cleaned ok g b clean_state bytes = bytes
 
--- A read gives the block's bytes where no write was under way meanwhile, and any bytes elsewhere.
+-- A read gives the block's bytes where no write or clean was under way meanwhile, and any bytes elsewhere.
 abbrev pub IsRead : (ℕ → ℕ) → (offset len : ℕ) → ReadState → ReadResult → Type 0
 IsRead bytes offset n (Reading covers) (Bytes bs) =
     (length bs ≡ n)
     × ((i : ℕ) → i < length bs → covers (offset + i) ≡ false → slice_index bs i ≡ bytes (offset + i))
 IsRead bytes offset n read_state result = Unit {0}
 
--- A write or a clean that failed leaves any bytes in its range, and nothing else changes.
+-- A write that failed leaves any bytes in its range, and nothing else changes.
 abbrev pub IsTorn : (ℕ → ℕ → ℕ) → BlockWrites → (ℕ → ℕ) → Type 0
 IsTorn bytes (InFlight b results w ws) g = (o : ℕ) → IsBeside w o → g o ≡ bytes b o
 IsTorn bytes pending g = Unit {0}

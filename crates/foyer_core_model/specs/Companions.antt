@@ -31,7 +31,7 @@ abbrev pub PiecesAmong : {C : Type 0} → List (ℕ × Record C) → List (Recor
 PiecesAmong {C} ps puts = (p : ℕ × Record C) (c : C) → IsAmong p ps → (p.1).source ≡ Given c → IsAmong p.1 puts
 
 module _ {C : Type 0} (rules : Rules C) (Splits : Splitting C) where
-  -- A piece is ignored only if it is young. It is dropped only if too much is queued. It is handed back only if it doesn't fit, or its code
+  -- A piece is ignored only if it is young. It is dropped only if too much is queued. It is returned only if it doesn't fit, or its code
   -- fails.
   pub record QueueKeeps : Type 0 where
     pub ignored : (old new : State C) (h n : ℕ) (age : Age) (c d : C) → Follows rules Splits old (Enqueue h n age c) (Ignored d) new → (d ≡ c) × (age ≡ Young)

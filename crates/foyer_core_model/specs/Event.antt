@@ -53,7 +53,7 @@ abbrev pub puts_of : {C : Type 0} → State C → Option (Batch C) → List (Rec
 puts_of old None = []
 puts_of old (Some batch) = puts_in old batch.writing
 
--- a piece that is taken from the front of a queue and handed back is deleted, under its own sequence
+-- a piece that is taken from the front of a queue and returned is deleted, under its own sequence
 abbrev pub with_returned : {C : Type 0} → List (Submission C) → List (Event C) → List (Event C)
 with_returned [] H = H
 with_returned (Piece h s n c ∷ rest) H = Deletion h s ∷ H

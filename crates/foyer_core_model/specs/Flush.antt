@@ -77,7 +77,7 @@ abbrev pub commit_in : {C : Type 0} → State C → Writing C → Commit C
 commit_in old w = commit_of w.block (old.filling w.block) w.records old.index
 
 module _ {C : Type 0} (rules : Rules C) (Splits : Splitting C) (old : State C) where
-  -- the buffer is placed from where the splitter goes on; the first block is the flusher's own, if it has one
+  -- the buffer is placed from where the splitter continues; the first block is the flusher's own, if it has one
   abbrev pub Begins : ℕ → Reply C → State C → Type 0
   Begins f (Began blocks marks) new =
       (marks ≡ (old.flushers f).marks) × Splits (old.flushers f).context (old.flushers f).buffer blocks

@@ -14,7 +14,7 @@ module _ {C : Type 0} (rules : Rules C) (Splits : Splitting C) (old : State C) w
   abbrev pub IsOutOfTurn : Step C → Type 0
   IsOutOfTurn step = (old.steps < last_number) × (Draws step → old.closed ≡ false) × (InTurn rules old step → ⊥)
 
-  -- A step out of turn, or refused, changes nothing and is handed back; all others are counted.
+  -- A step that is out of turn or refused changes nothing and is returned. All others are counted.
   abbrev pub Follows : Step C → Reply C → State C → Type 0
   Follows step (NotNow back) new = (back ≡ step) × IsOutOfTurn step × (new ≡ old)
   Follows step (Refused kind back) new = (back ≡ step) × MayRefuse rules Splits old kind step × (new ≡ old)

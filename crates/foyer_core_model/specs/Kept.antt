@@ -1,4 +1,5 @@
--- The block of the last commit of a hash, unless a reclaim of it or a destroy began since: the cause that a miss may have.
+-- The block of the last commit of a hash, unless a reclaim of it began or a destroy cleared the index since. That is the cause that a
+-- miss may have.
 use Rattle.std.specs.Prelude.{ℕ, ◌==◌, if◌then◌else◌, List, [], ◌∷◌, Option, Some, None}
 use Rattle.foyer_core_model.specs.Numbers.{put}
 use Rattle.foyer_core_model.specs.Record.{Record}

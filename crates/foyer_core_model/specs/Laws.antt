@@ -35,8 +35,8 @@ AnswersOnly {C} rules Splits is_value =
     → w.loads n ≡ Some l → l.ticket ≡ t → l.read_state ≡ ReadDone result
     → l.promise ≡ Some (Put t.hash t.address.sequence (Holds c))
 
--- A look-up issues a read of the newest record of its hash, unless it is throttled, or a reclaim of the record's block or
--- a destroy began since its last commit. A record that was broken when it was recovered may be missed here already.
+-- A look-up issues a read of the newest record of its hash, unless it is throttled, or a reclaim of the record's block began or
+-- a destroy cleared the index since its last commit. A record that was broken when it was recovered may be missed here already.
 abbrev pub LooksUpNewest : {C : Type 0} → Rules C → Splitting C → (C → Type 0) → Type 0
 LooksUpNewest {C} rules Splits is_value =
     (w : World C) (h : ℕ) (throttled : Bool) (reply : Reply C) (new : State C) (b s : ℕ) (x : Outcome C)
@@ -54,8 +54,8 @@ IsAnswer t (Bytes bs) Undecodable reply = (reply ≡ Refused Parse (LoadEnd t (B
 IsAnswer t (Bytes bs) (Holds c) reply = ((age : Age) × (reply ≡ Entry c age)) ⊎ (reply ≡ Refused Memory (LoadEnd t (Bytes bs)))
 
 -- A load whose look-up promised a record ends with that record, unless its read failed, an allocation of its decoding was
--- refused, or a reclaim of the record's block or a destroy began since its last commit. A recovered record that is
--- broken is a miss, and one that doesn't decode or isn't supported is so named.
+-- refused, or a reclaim of the record's block began or a destroy cleared the index since its last commit. A recovered record
+-- that is broken is a miss, and one that doesn't decode or isn't supported is so named.
 abbrev pub LoadsNewest : {C : Type 0} → Rules C → Splitting C → (C → Type 0) → Type 0
 LoadsNewest {C} rules Splits is_value =
     (w : World C) (t : Ticket) (result : ReadResult) (reply : Reply C) (new : State C) (n : ℕ) (l : Load C) (b s : ℕ) (x : Outcome C)

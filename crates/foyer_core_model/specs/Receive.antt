@@ -52,8 +52,8 @@ module _ {C : Type 0} (rules : Rules C) (old : State C) where
         index = put old.index h (inserted (old.index h) (Mark s));
       }
 
-  -- The front of the queue is taken. A piece that doesn't fit, or whose code fails, is handed back, and a mark of its
-  -- sequence takes its place; a reinsertion is dropped unless the index holds its very address and it fits.
+  -- The front of the queue is taken. A piece that doesn't fit, or whose code fails, is returned, and a mark of its
+  -- sequence takes its place. A reinsertion is dropped unless the index holds its very address and it fits.
   abbrev pub TakesFront : ℕ → List (Submission C) → Reply C → State C → Type 0
   TakesFront f [] Empty new = new ≡ old
   TakesFront f (Piece h s n c ∷ rest) (Received None) new =

@@ -81,7 +81,7 @@ module _ {C : Type 0} (rules : Rules C) (old : State C) where
     pub some_block : (b : ℕ) × (b < rules.blocks) × (old.place b ≡ Evictable)
     pub quiet : is_cleaning old.destroy ≡ false
 
-  -- The first pick, else any evictable block. How many pickers there are is no rule: they are lent anew at each step, and
+  -- The first pick, else any evictable block. No rule sets the number of pickers: each step borrows them anew, and
   -- as many are judged as have answered.
   abbrev pub Picks : Reply C → State C → Type 0
   Picks (Picked b answers probation) new =

@@ -83,7 +83,7 @@ released_dead : (place : ℕ → BlockSet) (own : Option ℕ) (c : ℕ) → rele
 released_dead place None c is = is
 released_dead place (Some b) c is = put_at (λ k. k ≡ Clean → place c ≡ Clean) place b Evictable c (λ _ e. absurd (let z : Evictable ≡ Clean = e in cc)) (λ _ e. e) is
 
--- and back, where the flusher's own block is in its set
+-- and back, if the flusher's own block is in the flusher's set
 released_back : (place : ℕ → BlockSet) (f : ℕ) (own : Option ℕ) (c : ℕ) → ((b : ℕ) → own ≡ Some b → place b ≡ Writes f) → place c ≡ Clean → released own place c ≡ Clean
 released_back place f None c owned is = is
 released_back place f (Some b) c owned is =

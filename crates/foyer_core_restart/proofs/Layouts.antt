@@ -59,7 +59,7 @@ module _ {C : Type 0} where
       let e : BlobEntryIndex = record { hash = r.hash; sequence = r.sequence; offset = at; len = length r.bytes } in
       ap (λ l. e ∷ l) (entries_are (at + page_up (length r.bytes)) rs) ∙ sym (entries_cons at (info_of r) (infos_of rs))
 
-  -- the records that stand where their entries say
+  -- the records that are stored where their entries say
   stored_are : (base at0 at : ℕ) (D : List ℕ) (rs : List (Record C)) → at0 ≤ at → AreBytesOf (drop (at - at0) D) rs
       → map stored (laid_from (base + at) rs) ≡ stands.stored_at base at0 D (laid.entries_from at (infos_of rs))
   stored_are base at0 at D [] le are = sym (stored_none base at0 at D)
@@ -89,7 +89,7 @@ module _ {C : Type 0} where
   contents_of (b ∷ bs) = contents_in b.parts ++ contents_of bs
 
   module _ (s : Sizes) (w : Section) (few : capacity_of s.index ≤ 2 ^ 32) where
-    -- how the records of a layout go on from a byte of the batch, where the first of them go into the present block
+    -- how the records of a layout continue from a byte of the batch, if the first of them go into the present block
     record Spread (start : ℕ) (f : Position) (rs : List (Record C)) (parts : List (Part C)) (e : Position) (blocks : List (BlockLayout C)) : Type 0 where
       pub now : List (Record C)
       pub later : List (Record C)

@@ -163,8 +163,8 @@ abbrev pub AreStill : {C : Type 0} → Sizes → (ℕ → BlockSet) → (ℕ →
 AreStill s place reclaims job bytes puts =
     (b : ℕ) → (IsDead place reclaims b → ⊥) → (IsJob job b → ⊥) → (g : laid.Position) × Holds s (bytes b) g (puts b)
 
--- A flusher's own block holds it up to where the splitter goes on; while it is written, it will once the writes that are
--- left are done.
+-- A flusher's own block holds what was put into its filling, up to where the splitter continues. While the block is written, it
+-- will hold this once the writes that are left are done.
 pub record IsHeld {C : Type 0} (s : Sizes) (filled : ℕ → Position) (bytes : ℕ → ℕ → ℕ) (puts : ℕ → List Entry) (own : Option ℕ) (job : Option (Job C)) (left : List Write) : Type 0 where
   pub mine : (b : ℕ) → own ≡ Some b → job ≡ None → Holds s (bytes b) (filled_to (filled b)) (puts b)
   pub writing : (b : ℕ) (ps : List (ℕ × Record C)) → job ≡ Some (b, ps)

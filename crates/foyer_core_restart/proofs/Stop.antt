@@ -1,4 +1,4 @@
--- What an opening finds after a stop, where the world is safe.
+-- What an opening finds after a stop, if the world is safe.
 use Rattle.std.proofs.Common.{◌≡◌, ◌≢◌, ℕ, zero, suc, ◌+◌, ◌<◌, ◌≤◌, ◌==◌, Bool, true, false, ◌&&◌, ◌||◌, Option, Some, None, List, [], ◌∷◌, ◌++◌, length, map, ◌⊎◌, inl, inr, refl, sym, ap, subst, ◌∙◌, arith}
 use Rattle.std.proofs.lemmas.Bool.{eqb-true}
 use Rattle.std.proofs.lemmas.List.{append-nil}
@@ -95,7 +95,7 @@ module _ (A : Type 0) {C : Type 0} (rules : Rules C) (w : World C) (sound : Worl
           let fits : WritesFit w.bytes r (InFlight b rs v vs) = subst (λ p. WritesFit w.bytes r p) is ok.1 in
           (r.records, ap job_of e ∙ (λ i. Some (sym fits.0 i, r.records)))
 
-  -- nothing but a job of the block is under way there where it isn't being cleaned
+  -- nothing but a write to the block is under way at an offset if the block isn't being cleaned there
   pub uncovered : (b o : ℕ) → ((f : ℕ) (rs : List Bool) (v : Write) (vs : List Write) → w.block_writes f ≡ InFlight b rs v vs → IsBeside v o) → clean_covers (w.clean_states b) o ≡ false → covers rules w b o ≡ false
   uncovered b o beside dry = or_false (some_writes_covers rules.flushers w.block_writes b o) (clean_covers (w.clean_states b) o) (no_writes rules.flushers w.block_writes b o (λ f. one f (w.block_writes f) refl)) dry
     where

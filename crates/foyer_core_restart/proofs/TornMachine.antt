@@ -17,7 +17,7 @@ use Rattle.foyer_core_model.specs.Layout.{writes_in}
 use Rattle.foyer_format_buffer.proofs.EndsLemmas.{length_read, index_read, count_is}
 use Rattle.foyer_core_restart.specs.Torn.{Place, alone}
 
--- where its second byte is 255, it counts too many
+-- if the second byte of an index's count is 255, the index counts too many entries
 pub unsealed : (B : ℕ → ℕ) (n : ℕ) (es : List BlobEntryIndex) → n ≡ 4096 → B 9 ≡ 255 → IsSealed (read B 0 n) es → ⊥
 unsealed B n es size there is =
     let len : length (read B 0 n) ≡ n = length_read B 0 n in
@@ -27,7 +27,7 @@ unsealed B n es size there is =
     let sum = count_is (read B 0 n) is.long in
     omega arith
 
--- where it counts one entry, its first bytes are 0
+-- if an index counts one entry, the first bytes of its count are 0
 pub counts_one : (b : List ℕ) (e : BlobEntryIndex) → IsSealed b (e ∷ []) → (slice_index b 8 ≡ 0) × (slice_index b 9 ≡ 0)
 counts_one b e is =
     let one : number_at 8 4 b ≡ 1 = is.count in

@@ -1,4 +1,4 @@
--- What stands where a torn run is stopped, and what an opening finds there.
+-- What is stored when a torn run is stopped, and what an opening finds then.
 use Rattle.std.proofs.Common.{◌≡◌, ℕ, ◌+◌, ◌<◌, ◌≤◌, nat_le, nat_lt, Bool, true, false, ◌||◌, if◌then◌else◌, ◌-◌, List, [], ◌∷◌, ◌++◌, length, slice_index, ◌⊎◌, inl, inr, refl, sym, ap, subst, ◌∙◌, arith}
 use Rattle.std.proofs.lemmas.Bool.Decides.{nat_tests}
 use Rattle.foyer_format_layout.specs.Page.{page_up}
@@ -163,7 +163,7 @@ module _ {C : Type 0} (m : Machine C) (Splits : Splitting C) (is_value : C → T
   index_there = subst (λ u. p.index ≡ read (torn 0) u 4096) first_is.blob (subst (λ n. p.index ≡ read (torn 0) p.blob n) first_is.size
       (sym (read_whole (record { role = Index; offset = p.blob; bytes = p.index }) (laid (record { role = Data; offset = p.blob + p.at; bytes = p.content }) (λ u. 255)))))
 
-  -- what passes as an index is one that was written, where in block 1 it is so
+  -- what passes as an index is one that was written, if that is so in block 1
   strays_with : (g : ℕ → ℕ) → ((es : List BlobEntryIndex) → IsSealed (read g 0 4096) es → q.index ≡ read g 0 4096) → HasNoStrays rules w (with_index g)
   strays_with g known b o es lt scan is = go (which b lt)
     where
@@ -211,7 +211,7 @@ module _ {C : Type 0} (m : Machine C) (Splits : Splitting C) (is_value : C → T
   pub reached : IsTornStop rules Splits is_value 2 (record { block = 0; offset = p.offset; len = length i.bytes; sequence = 1; filling = 1 })
   reached = stop
 
-  -- the same stop where the index of block 1 has come whole, though its write hasn't ended
+  -- the same stop, if the index of block 1 has come whole though its write hasn't ended
 
   abbrev whole : ℕ → ℕ → ℕ
   whole = with_index (laid index2 (w.bytes 1))

@@ -1,4 +1,4 @@
--- A run that is stopped with two flushers inside writes, where the splitter places each batch.
+-- A run whose batches lie where the splitter places them, and that is stopped with two flushers inside writes.
 use Rattle.std.proofs.Common.{◌≡◌, ℕ, zero, suc, ◌+◌, ◌<◌, ◌≤◌, false, Option, Some, List, [], ◌∷◌, ◌++◌, ◌-◌, length, drop, take, slice_index, refl, sym, ap, subst, ◌∙◌, arith}
 use Rattle.foyer_format_layout.specs.Position.{Sizes, fresh}
 use Rattle.foyer_format_layout.specs.Page.{page_up}

@@ -37,7 +37,7 @@ module _ {C : Type 0} (rules : Rules C) (format : IsFormat rules) where
   behind_more p (e ∷ []) fits = let a : 0 < rules.index_size = format.sizes.some in let b : rules.index_size ≤ e.offset = (fits.0).behind in omega arith
   behind_more p (e ∷ d ∷ es) fits = behind_more p (d ∷ es) fits.1
 
-  -- the chain from a place, where so much of the block is left
+  -- the chain from a place, if at most so much of the block is left
   chain_from : (fuel : ℕ) (B : ℕ → ℕ) (failed : ℕ → Bool) (p : ℕ) → rules.block_size ≤ p + fuel → (es : List Entry) × (q : ℕ) × Chain (sizes_of rules) B failed p es q
   chain_from zero B failed p le = ([], p, ends (λ es is. let l : p + rules.index_size ≤ rules.block_size = is.room in let a : 0 < rules.index_size = format.sizes.some in omega arith))
   chain_from (suc fuel) B failed p le = go (index_or B failed p) (λ q l. chain_from fuel B failed q l)

@@ -58,7 +58,7 @@ well_more [] ok = tt
 well_more (true ∷ rs) ok = well_more rs ok
 well_more (false ∷ rs) ok = absurd ok
 
--- a read goes on where what begins doesn't fall into its block
+-- a read continues if what begins doesn't fall into its block
 read_state_torn : (s : Sizes) (B : ℕ → ℕ) (p b : ℕ) (over : ℕ → ℕ → Bool) (read_state : ReadState) → ((o : ℕ) → over b o ≡ false) → PhaseReads s B p read_state → PhaseReads s B p (read_torn over b read_state)
 read_state_torn s B p b over ReadIssued none ok = ok
 read_state_torn s B p b over (Reading seen) none ok = λ o. go (seen o) (over b o) (ok o) (none o)

@@ -63,7 +63,7 @@ pub record IsRun {C : Type 0} (rules : Rules C) (Splits : Splitting C) (is_value
 
 -- the bytes at the stop
 
--- The bytes are those that the writes left, except where a write or a clean is under way. There any bytes may stand.
+-- The bytes are those that the writes left, except where a write or a clean is under way. There any bytes may be stored.
 abbrev pub IsStopped : {C : Type 0} → Rules C → World C → (ℕ → ℕ → ℕ) → Type 0
 IsStopped rules w bytes = (b o : ℕ) → covers rules w b o ≡ false → bytes b o ≡ w.bytes b o
 

@@ -16,14 +16,17 @@ ghost use Rattle.foyer_core_restart.specs.Witness.{ReachesIndexed};
 
 use std::alloc::Allocator;
 
-/// A run is stopped at any moment, and the bytes that it left are opened. Take an address that the index had and whose block wasn't being
-/// written. The address is found again, or a newer record of its hash is found.
+/// A run is stopped at any moment, and the bytes that it left are opened. Each address that the index had, and whose block wasn't being
+/// written, is found again, or a newer record of its hash is found.
+///
+/// Conditions: the run began with nothing found. In it no write, no reclaim's read and no batch failed, and nothing was reinserted. The
+/// bytes have no stray index. No read of the opening fails, it has no marks, and its mode isn't `None`.
 pub fn restart_law<C, A: Allocator>()
     ensures { (rules : Rules C) (splits : Position → List (Record C) → List (BlockLayout C) → Bool) (is_value : C → Bool)
         → RestartLaw A rules (λ f rs ss. splits f rs ss ≡ true) (λ c. is_value c ≡ true) }
 {}
 
-/// If no flush was under way at the stop, each address that the index had is found again.
+/// With the conditions of `restart_law`, and if no block was being written at the stop, each address that the index had is found again.
 pub fn idle_law<C, A: Allocator>()
     ensures { (rules : Rules C) (splits : Position → List (Record C) → List (BlockLayout C) → Bool) (is_value : C → Bool)
         → IdleLaw A rules (λ f rs ss. splits f rs ss ≡ true) (λ c. is_value c ≡ true) }
@@ -34,7 +37,7 @@ pub fn real_restart_law<C, A: Allocator>()
     ensures { (rules : Rules C) (is_value : C → Bool) → RealRestartLaw A rules (λ c. is_value c ≡ true) }
 {}
 
-/// The same, if no flush was under way.
+/// The same, if no block was being written.
 pub fn real_idle_law<C, A: Allocator>()
     ensures { (rules : Rules C) (is_value : C → Bool) → RealIdleLaw A rules (λ c. is_value c ≡ true) }
 {}
@@ -44,12 +47,13 @@ pub fn laid_restart_law<C>()
     ensures { (rules : Rules C) (is_value : C → Bool) → LaidRestartLaw rules (λ c. is_value c ≡ true) }
 {}
 
-/// The same, if no flush was under way.
+/// The same, if no block was being written.
 pub fn laid_idle_law<C>()
     ensures { (rules : Rules C) (is_value : C → Bool) → LaidIdleLaw rules (λ c. is_value c ≡ true) }
 {}
 
-/// What is found again is what was newest at the stop: the history of the world that the opening begins says the same of it.
+/// Take a world opened over the bytes of a stopped run, and an address that is found again. The newest event of the address's hash is the
+/// one that was newest at the stop.
 pub fn laid_newest_law<C>()
     ensures { (rules : Rules C) (is_value : C → Bool) → LaidNewestLaw rules (λ c. is_value c ≡ true) }
 {}
@@ -59,12 +63,12 @@ pub fn split_is_real<C, A: Allocator>()
     ensures { (rules : Rules C) → IsFormat rules → SplitIsReal A rules }
 {}
 
-/// Every block lists something, whatever its bytes are.
+/// Every block lists some entries, maybe none, whatever its bytes are and whichever reads fail.
 pub fn lists_exist<C>()
     ensures { (rules : Rules C) → IsFormat rules → ListsExist rules }
 {}
 
-/// Every opening of the bytes of blocks gives an index, unless what it keeps has the last sequence.
+/// If no read fails and there are no marks, an opening of any bytes gives an index, unless what it keeps has the last sequence.
 pub fn opens_unless_last<C>()
     ensures { (rules : Rules C) → IsFormat rules → OpensUnlessLast rules }
 {}
@@ -74,13 +78,14 @@ pub fn reaches_indexed<A: Allocator>()
     ensures { ReachesIndexed A }
 {}
 
-/// They speak of a stop inside writes: such a run is stopped with two flushers each inside a write, one of data and
-/// one of an index, while an address stands in the index whose block neither writes.
+/// The laws also speak of a stop inside writes. Such a run is stopped with two flushers each inside a write, one of data and one of a
+/// blob's index. The core's index has an address whose block neither flusher writes.
 pub fn reaches_torn<A: Allocator>()
     ensures { ReachesTorn A }
 {}
 
-/// Whatever opens the bytes of that stop finds the address again, or a newer record of its hash.
+/// An opening of the bytes of such a stop as in `reaches_torn` finds the address again, or a newer record of its hash. No read of it fails,
+/// it has no marks, and its mode isn't `None`.
 pub fn finds_after_torn<A: Allocator>()
     ensures { FindsAfterTorn A }
 {}

@@ -107,7 +107,7 @@ zeros_there o =
     go false e q f size = absurd (grind (arith, nat_tests))
     go true e false f size = absurd (grind (arith, nat_tests, size))
 
--- zeros come before an index where there is room
+-- zeros come before an index if there is room
 left_zeros : (s : Sizes) (P : Entry → Type 0) (o : ℕ) (done ws : List Write) → s.index ≤ o
     → ((more : List Write) → IsBarredAt s more o → LeftOk s P more ws) → LeftOk s P done (with_zeros s.block o ws)
 left_zeros s P o done ws far later = go (nat_le (o + 4096) s.block) refl

@@ -1,4 +1,4 @@
--- What a block lists after a stop: what its present life has written, or, where that is nothing, what stood there.
+-- What a block lists after a stop: what its present life has written, or, if that is nothing, what was stored there before.
 use Rattle.std.proofs.lemmas.Bool.Decides.{nat_tests}
 use Rattle.std.proofs.Common.{◌≡◌, ℕ, zero, suc, ◌+◌, ◌*◌, ◌<◌, ◌≤◌, ◌==◌, nat_le, nat_lt, Bool, true, false, ◌&&◌, ◌||◌, if◌then◌else◌, List, [], ◌∷◌, ◌++◌, length, slice_index, ◌⊎◌, inl, inr, refl, sym, ap, subst, ◌∙◌, arith, append_assoc}
 use Rattle.std.proofs.lemmas.Bool.{eqb-true}
@@ -70,7 +70,7 @@ pub past_end : (s : Sizes) (B : ℕ → ℕ) (failed : ℕ → Bool) (p q : ℕ)
 past_end s B failed p q rest some far (ends none) = refl
 past_end s B failed p q rest some far (goes is more) = let room : p + s.index ≤ s.block = is.room in absurd (omega (arith, some))
 
--- where a page of zeros stands, the chain lists nothing more
+-- if a page of zeros is stored at a place, the chain lists nothing more from there on
 pub zeros_end : (s : Sizes) (B : ℕ → ℕ) (failed : ℕ → Bool) (p q : ℕ) (rest : List Entry) → AreSizes s → ((i : ℕ) → p ≤ i → i < p + 4096 → B i ≡ 0) → Chain s B failed p rest q → rest ≡ []
 zeros_end s B failed p q rest sizes zeros (ends none) = refl
 zeros_end s B failed p q rest sizes zeros (goes {es = []} {rest = more} is chain) = past_end s B failed (p + s.block) q more sizes.some (omega arith) chain
@@ -92,7 +92,7 @@ chain_front s B D failed p q r es all sizes same at (goes {es = f ∷ fs} {rest 
     let deep : (rest : List Entry) × (step.0 ≡ more ++ rest) = chain_front s B D failed (behind s p (f ∷ fs)) q r more step.0 sizes same (inr (omega (arith, far))) chain step.1 in
     (deep.0, step.2 ∙ ap (λ l. placed p (f ∷ fs) ++ l) deep.1 ∙ sym (append_assoc (placed p (f ∷ fs)) more deep.0))
 
--- A chain that no failed read ends is the one where none failed.
+-- A chain that no failed read ends is the one that is read if no read fails.
 pub chain_whole : (s : Sizes) (B : ℕ → ℕ) (failed : ℕ → Bool) (p q : ℕ) (es : List Entry) → (q + s.index ≤ s.block → failed q ≡ true → ⊥) → Chain s B failed p es q → Chain s B all_read p es q
 chain_whole s B failed p q es whole (ends none) = ends (λ es is. go es is (failed p) refl)
   where
@@ -170,7 +170,7 @@ module _ (A : Type 0) {C : Type 0} (rules : Rules C) (sizes : AreSizes (sizes_of
             go true e = bare v (subst (AreLeft A rules b B Empty l) is (lived.left f) (sym (eqb-true b c e))).0
             go false e = refl
 
-    -- the first index, where this life has written none of it
+    -- the first index, if this life has written none of it
     same_first : (e : Entry) (es : List Entry) → IsIndex s X all_read 0 (e ∷ es) → ((o : ℕ) → o < s.index → IsBare l.writes o) → read X 0 s.index ≡ read (w.bytes b) 0 s.index
     same_first e es is bare = go (w.clean_states b) refl
       where

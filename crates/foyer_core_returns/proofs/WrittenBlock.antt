@@ -80,7 +80,7 @@ module _ (n : ℕ) (content index : List ℕ) (is : IsFilledWith n content index
       chain_step four left all_read 0 lists.end (stands n ∷ []) ls is_index lists.chain in
       step.2 ∙ ap (λ l. stands n ∷ l) (zeros_end four left all_read 8192 lists.end step.0 four_sizes zeros_there (subst (λ q. Chain four left all_read q step.0 lists.end) ends_at step.1))
 
-  -- the places that are scanned: the block's start, where the data end, and behind the block
+  -- the places that are scanned: the block's start, where the data end, and after the block
 
   scanned_far : (B : ℕ → ℕ) (p q : ℕ) → 16384 ≤ p → IsScanned four B p q → 16384 ≤ q
   scanned_far B p q far (here) = far

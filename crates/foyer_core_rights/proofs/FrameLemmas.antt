@@ -50,7 +50,7 @@ module _ {C : Type 0} where
   same_kept w u n t promise state same is h =
       record { load = h.load; at = is ∙ h.at; below = subst (λ (k : ℕ). n < k) (sym same) h.below; ticket = h.ticket; promise = h.promise; read_state = h.read_state }
 
-  -- a step's reply keeps a load that was issued, but for what is kept of its block
+  -- a step's reply keeps a load that was issued, except what is kept of its block
   pub step_kept : (reply : Reply C) (H : List (Event C)) (kept : ℕ → Option ℕ) (issued : ℕ) (loads : ℕ → Option (Load C)) (n : ℕ) (l : Load C) → n < issued → loads n ≡ Some l
       → (k : Load C) × (loads_after reply H kept issued loads n ≡ Some k) × (k.ticket ≡ l.ticket) × (k.promise ≡ l.promise) × (k.read_state ≡ l.read_state)
   step_kept (Read t) H kept issued loads n l below at = (l, put_other loads issued _ n (λ same. omega arith) ∙ at, refl, refl, refl)

@@ -22,7 +22,7 @@ use Rattle.foyer_core_rights.proofs.FrameLemmas.{frames}
 use Rattle.foyer_core_rights.proofs.IssuedSteps.{StageHas, BlockHas, AllHave, block_less, steps_have}
 
 module _ {C : Type 0} (rules : Rules C) where
-  -- a step that isn't handed back, and one that is
+  -- a step that isn't returned, and one that is
   follows_has : (Splits : Splitting C) (w : World C) (step : Step C) (reply : Reply C) (new : State C) → ((b : ℕ) (r : Reclaim) → w.core.reclaims b ≡ Some r → w.core.place b ≡ Reclaims)
       → Follows rules Splits w.core step reply new → AllHave w.core.reclaims w.core.destroy w.scans w.clean_states
       → AllHave new.reclaims new.destroy (scans_after rules.index_size reply step w.scans) (cleans_after reply step w.clean_states)
@@ -99,7 +99,7 @@ module _ {C : Type 0} (rules : Rules C) where
     listed_idle w b (Some r) at has = (subst (λ (x : Stage). StageHas x (w.scans b) (w.clean_states b)) at has.1).1
     listed_idle w b None at has = absurd at
 
-    -- where a clean is issued, none was
+    -- if a clean of a block is issued, the block had none before
     issues_one : (w : World C) (d : Deed C) (b : ℕ) → AllHave w.core.reclaims w.core.destroy w.scans w.clean_states → MayAllHappen rules Splits is_value w (events_in d) → IssuesClean d b → w.clean_states b ≡ CleanIdle
     issues_one w (Steps (ReclaimForget c) (Cleans k) new) b has ((_, (few, turn, made)), _) same = ap w.clean_states (sym same) ∙ listed_idle w c (w.core.reclaims c) turn.1 (has c)
     issues_one w (Steps DestroyClear (Cleared bs) new) b has ((_, (few, turn, made)), _) same =

@@ -28,7 +28,7 @@ unless_picked b (Some c) = go (c == b) refl
     go false e = inl (c, refl)
 
 module _ {C : Type 0} where
-  -- a deletion in front leaves a put newest only where it was
+  -- a deletion in front leaves a put newest only if the put was newest before
   behind_deletion : (q u : ℕ) (H : List (Event C)) (h s : ℕ) (x : Outcome C) → newest h (Deletion q u ∷ H) ≡ Some (Put h s x) → newest h H ≡ Some (Put h s x)
   behind_deletion q u H h s x is = go (q == h && nat_le (sequence_in (newest h H)) u) is
     where

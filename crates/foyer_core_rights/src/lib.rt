@@ -8,7 +8,8 @@ ghost use Rattle.foyer_core_model.specs.Rules.{Rules};
 ghost use Rattle.foyer_core_rights.specs.Frames.{FramesHold, AllIssuedStays};
 ghost use Rattle.foyer_core_rights.specs.Serving.{LosesByReclaim, Serves};
 
-/// Each right keeps its part of the world while others do what they have the rights for.
+/// A deed that doesn't take a right leaves that right's part of the world as it is. Exceptions: a reclaim's read is replaced if another
+/// reclaim of its block begins. A clean that is done is replaced if it is issued again.
 pub fn frames_hold<C>()
     ensures { FramesHold C }
 {}
@@ -24,7 +25,7 @@ pub fn loses_by_reclaim<C>()
     ensures { LosesByReclaim C }
 {}
 
-/// What a thread does by its right may happen, and a load ends with what its look-up was promised.
+/// What a thread does by its right may happen. A load that ends with an entry gives what its look-up was promised.
 pub fn serves<C>()
     ensures { (rules : Rules C) (splits : Position → List (Record C) → List (BlockLayout C) → Bool) (is_value : C → Bool)
         → Serves rules (λ f rs ss. splits f rs ss ≡ true) (λ c. is_value c ≡ true) }

@@ -24,7 +24,7 @@ module _ {D : Type 0} (lies : D → ℕ → ℕ → ℕ → Type 0) (faults : D 
   pub come_before : (x o n : ℕ) → HasCome lies faults a c x o n → HasCome lies faults a b x o n
   come_before x o n is = (none_before (faults a) (faults b) (faults c) up on is.0, is.1)
 
-  -- and from there on, where it lies there still
+  -- and from there on, if its range still lies there
   pub come_behind : ((x o n : ℕ) → lies a x o n → lies b x o n) → (x o n : ℕ) → HasCome lies faults a c x o n → HasCome lies faults b c x o n
   come_behind lying x o n is = (none_behind (faults a) (faults b) (faults c) up on is.0, lying x o n is.1)
 
@@ -75,7 +75,7 @@ module _ {K V P A : Type 0} (m : Meaning K V P) where
   pub cause_drives : (came : ℕ → ℕ → ℕ → Type 0) (Are : List (WorldEvent Content) → Type 0) (a b : Core K V P A) (x y : ℕ → ℕ → ℕ) → DrivesForCause came Are m a b x y → DrivesBy Are m a b x y
   cause_drives came Are a b x y drives s sound w stands same = let driven = drives s sound w stands same in (driven.0, driven.1)
 
-  -- where it is sure of fewer accesses
+  -- if fewer accesses are sure
   pub cause_fewer : (fewer more : ℕ → ℕ → ℕ → Type 0) → ((b o n : ℕ) → fewer b o n → more b o n) → (Are : List (WorldEvent Content) → Type 0) (a b : Core K V P A) (x y : ℕ → ℕ → ℕ)
       → DrivesForCause more Are m a b x y → DrivesForCause fewer Are m a b x y
   cause_fewer fewer more within Are a b x y drives s sound w stands same =

@@ -36,7 +36,7 @@ use Rattle.foyer_core_run.proofs.ListLemmas.{append_none}
 use Rattle.foyer_core_run.proofs.ReclaimRuns.{IsCleanDone, clean_same, done_torn}
 use Rattle.foyer_core_run.proofs.StepLemmas.{AreUnread, due_more, unread_goes}
 
--- where no clean is noted none is due
+-- if no clean is noted, none is due, or none was issued in this run
 not_noted : (before : CleanState) (x : Bool) (clean_state : CleanState) → IsCleanDue before x clean_state → x ≡ false → (clean_state ≢ CleanIssued) ⊎ (clean_state ≡ before)
 not_noted before false clean_state is e = elim is [ inl same ↦ inr same | inr none ↦ inl none ]
 not_noted before true clean_state is e = absurd (let f : true ≡ false = e in cc)

@@ -82,7 +82,7 @@ cleans_more n events is_ok torn fault it st more are is = record {
 }
 
 module _ {K V P A : Type 0} (m : Meaning K V P) where
-  -- a clean where it is issued
+  -- a clean, if it is issued
   pub cleans_once : (came : ℕ → ℕ → ℕ → Type 0) (b : ℕ) (outcome : Result Unit Error) (answer : Reply K V P A) (old new : Core K V P A) (bytes bytes' : ℕ → ℕ → ℕ)
       → IsCleanDone bytes bytes' b (went_well outcome) → OnErr outcome (came b 0 page → ⊥) → Refines m (step.DestroyCleaned b outcome) answer old new → Cleans m came b answer old new bytes bytes'
   cleans_once came b outcome answer old new bytes bytes' done unsure cleans s sound w stands same issued = (

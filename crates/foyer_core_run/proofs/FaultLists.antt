@@ -35,7 +35,7 @@ module _ {fewer more : ℕ → ℕ → ℕ → Type 0} (within : (b o n : ℕ) �
   cause_within rules w (CleanEnds b ok torn) is = λ failed comes. is failed (within b 0 page comes)
   cause_within rules w event is = is
 
-  -- where it is sure of fewer accesses, no more failed without a cause
+  -- if fewer accesses are sure, no more accesses failed without a cause
   pub causes_within : {C : Type 0} (rules : Rules C) (w : World C) (events : List (WorldEvent C)) → AreForCause more rules w events → AreForCause fewer rules w events
   causes_within rules w [] are = tt
   causes_within rules w (event ∷ events) are = (cause_within rules w event are.0, causes_within rules (after rules w event) events are.1)
@@ -94,7 +94,7 @@ pub unsure_read : {A : Type 0} (outcome : Result (Vec ℕ A) Error) {Came : Type
 unsure_read (Ok bytes) unsure failed = absurd (let f : model_step.Bytes bytes.items ≡ model_step.Fault = failed in cc)
 unsure_read (Err e) unsure failed = unsure
 
--- what was read is a fault where the read failed
+-- what was read is a fault if the read failed
 pub fault_read : {A : Type 0} (outcome : Result (Vec ℕ A) Error) → is_fault (came_of outcome) ≡ not (went_well outcome)
 fault_read (Ok bytes) = refl
 fault_read (Err e) = refl

@@ -1,4 +1,4 @@
--- A fault is told only where an access failed.
+-- A fault is told only if an access failed.
 use Rattle.std.proofs.Common.{◌≡◌, ◌⊎◌, ℕ, Bool, inl, inr, Option, Some, None, Result, Ok, Err, refl, ap, subst, ◌∙◌}
 use Rattle.std.specs.Prelude.{OnErr, slice_get, IsSomeAnd}
 use Rattle.std.specs.declared.vec.Vec.{Vec}
@@ -65,7 +65,7 @@ module _ {K V P A : Type 0} (m : Meaning K V P) where
       let follows = subst (λ r. Follows (machine m s sound) (layout s) it (model_step.FlushBlock flusher) r met.after) is met.follows in
       absurd (described_failed (machine m s sound) (layout s) it met.after flusher follows)
 
-  -- the end of a load only where its read failed
+  -- the end of a load is refused for Io only if the load's read failed
   pub load_fails : (hash : ℕ) (throttled : Bool) (ticket : Ticket) (outcome : Result (Vec ℕ A) Error) (answer : Reply K V P A) (old mid new : Core K V P A) (came : ℕ → ℕ → ℕ → Type 0)
       → Looks (step.LoadBegin hash throttled) ticket old → Refines m (step.LoadBegin hash throttled) (reply.Read ticket) old mid
       → OnErr outcome (came ticket.address.block ticket.address.offset (page_up ticket.address.len) → ⊥)
@@ -82,7 +82,7 @@ pub report_fails : {K V P A Unsure : Type 0} (flusher : ℕ) (outcome : Result (
 report_fails flusher (Ok x) old unsure may = inr (may refl)
 report_fails flusher (Err e) old unsure may = inl unsure
 
--- where it isn't sure of more places, it isn't of fewer
+-- if an access isn't one of more sure accesses, it isn't one of fewer
 pub unsure_behind : {X E : Type 0} {fewer more : ℕ → ℕ → ℕ → Type 0} (r : Result X E) → ((b o n : ℕ) → fewer b o n → more b o n) → (b o n : ℕ)
     → OnErr r (more b o n → ⊥) → OnErr r (fewer b o n → ⊥)
 unsure_behind (Ok x) within b o n unsure = tt

@@ -237,7 +237,7 @@ module _ {C : Type 0} (rules : Rules C) (Splits : Splitting C) (is_value : C →
       (subst (λ w. MayAllHappen rules Splits is_value w es) (sym (after_more rules first done (e ∷ []))) may.1)
       (one_more first done e may.0 known))
 
-  -- Each load of a world was issued by a look-up, where the first world has none.
+  -- Each load of a world was issued by a look-up, if the first world has no load.
   pub all_looked_up : (first : World C) (events : List (WorldEvent C)) → ((n : ℕ) → first.loads n ≡ None) → MayAllHappen rules Splits is_value first events
       → (n : ℕ) (l : Load C) → (after_all rules first events).loads n ≡ Some l → IsLookedUp first events n l.ticket
   all_looked_up first events none may = all_more first [] events may (λ n l is. absurd (let e : None ≡ Some l = sym (none n) ∙ is in cc))

@@ -138,7 +138,7 @@ module _ {K V P A : Type 0} (m : Meaning K V P) where
   issues_read (reply.Refused why back) t (k, issued, is) = absurd (cc)
   issues_read answer t is = absurd (cc)
 
-  -- where a put is newest, the look-up issues a read of it
+  -- if a put is newest, the look-up issues a read of it
   looked_up : (s : Settings) (sound : AreValid s) (first : World Content) (events : List (WorldEvent Content)) (h : ℕ) (answer : model_reply.Reply Content) (looked : State Content) (b q : ℕ) (x : Outcome Content) (core : Core K V P A) (bytes : ℕ → ℕ → ℕ)
       → IsHistory m s sound first events core bytes → core.steps + 1 < last_number
       → (after_all (machine m s sound) first events).kept h ≡ Some b

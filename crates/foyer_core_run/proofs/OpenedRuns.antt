@@ -56,7 +56,7 @@ module _ {K V P : Type 0} (m : Meaning K V P) (s : Settings) (sound : AreValid s
   abbrev world_of : (ℕ → ℕ → ℕ) → Opened → List (ℕ × Address) → World Content
   world_of bytes o found = opened_world (machine m s sound) bytes o found
 
-  -- where no hash has an address, none was listed
+  -- if no hash has an address, no address was listed
   none_listed : (bytes : ℕ → ℕ → ℕ) (o : Opened) (found : List (ℕ × Address)) → IsOpenedWorld (machine m s sound) (world_of bytes o found) → ((h : ℕ) → o.index h ≡ None) → found ≡ []
   none_listed bytes o found opened none =
       let empty : opened.found ≡ [] = none_among opened.found (λ h. sym (opened.index h) ∙ none h) in

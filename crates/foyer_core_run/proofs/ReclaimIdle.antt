@@ -39,7 +39,7 @@ use Rattle.foyer_core_run.specs.AtRest.{KeepsIdle, Leads, Without}
 use Rattle.foyer_core_run.specs.Reclaims.{IsOver, IsUnread, IsUnreadIn, KeepsUnread}
 use Rattle.foyer_core_run.proofs.RestLemmas.{leads_more, leads_none}
 
--- a step of a reclaim, but for a read
+-- a step of a reclaim, except a read
 abbrev pub IsOfReclaim : {C : Type 0} → model_step.Step C → Type 0
 IsOfReclaim model_step.ReclaimBegin = Unit {0}
 IsOfReclaim (model_step.ReclaimForget b) = Unit {0}
@@ -121,7 +121,7 @@ module _ {C : Type 0} (rules : Rules C) where
   scanned_unread old new b r stage came it unread refused ok = absurd ok
 
   module _ (Splits : Splitting C) where
-    -- a read whose verdicts admit nothing, where no record is read
+    -- a read whose verdicts admit nothing, if no record is read
     read_unread : (old new : State C) (b : ℕ) (came : model_step.ReadResult) (it : model_reply.Reply C) → AllRefused (given_verdicts it) → Follows rules Splits old (model_step.ReclaimRead b came) it new → KeepsUnread b old new
     read_unread old new b came (model_reply.NotNow back) refused ok = λ unread.
         (same_idle old new (ap (λ c. c.flushers) ok.2), subst (λ c. IsUnreadIn (c.reclaims b)) (sym ok.2) unread)
@@ -374,7 +374,7 @@ module _ {K V P A : Type 0} (m : Meaning K V P) where
   as_sort : (answer : Reply K V P A) (it : model_reply.Reply Content) (k : Sort) → IsReply m answer it → sort it ≡ k → sort_of answer ≡ k
   as_sort answer it k is e = sym (sorted answer it is) ∙ e
 
-  -- where no block is picked, the step comes back
+  -- if no block is picked, the step is returned
   pub begin_over : (answer : Reply K V P A) (old new : Core K V P A) → ((b : ℕ) (answers : _) (probation : _) → answer ≡ reply.Picked b answers probation → ⊥) → Refines m step.ReclaimBegin answer old new → IsOver m old answer
   begin_over answer old new not refines s sound it at =
       let met = refines s sound it at in

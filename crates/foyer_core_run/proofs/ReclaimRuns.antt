@@ -158,7 +158,7 @@ module _ {K V P A : Type 0} (m : Meaning K V P) where
         (put_same w.scans b (Some (record { offset = offset; len = len; read_state = ReadIssued })))
     awaits b r answer it w st is = tt
 
-    -- events of the reclaim lead to where it awaits a part
+    -- events of the reclaim lead to a world in which it awaits this part, if any
     abbrev Reaches : World Content → ℕ → Option Part → Core K V P A → (ℕ → ℕ → ℕ) → Type 0
     Reaches w b next new bytes = (driven : IsDriven m s sound w new bytes) × AreReading b driven.events × IsAwaited b next (after_all (machine m s sound) w driven.events)
 
@@ -183,7 +183,7 @@ module _ {K V P A : Type 0} (m : Meaning K V P) where
           awaits b r answer met.it (ends m s sound w b r) met.after met.reply,
         )
 
-    -- and where what came is refused, a fault is brought
+    -- and if what came is refused, a fault is brought
     part_twice : (w : World Content) (b : ℕ) (part : Part) (outcome : Result (Vec ℕ A) Error) (e : Error) (why : _) (back : _) (answer : Reply K V P A) (mid new : Core K V P A) (bytes : ℕ → ℕ → ℕ)
         → ((c o : ℕ) → w.bytes c o ≡ bytes c o) → IsAwaited b (Some part) w → IsPartCome bytes b part outcome → (met : IsRefined m s sound (step.ReclaimRead b outcome) (reply.Refused why back) mid w.core)
         → IsRefined m s sound (step.ReclaimRead b (Err e)) answer new met.after → Reaches w b (part_in answer) new bytes

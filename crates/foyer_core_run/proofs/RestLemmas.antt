@@ -86,7 +86,7 @@ module _ {K V P A : Type 0} (m : Meaning K V P) where
         let met = refines s sound it at in
         (met.after, met.stands, receives_none (machine m s sound) (layout s) it met.after f met.it met.follows)
 
-    -- and where nothing is, the queue is empty
+    -- and if nothing is received, the queue is empty
     pub receive_ends : SaysNothing answer → Refines m (step.Receive f) answer a b → Leads m (TakesQueue f) a b
     receive_ends nothing refines = λ s sound it at.
         let met = refines s sound it at in
@@ -197,7 +197,7 @@ module _ {K V P A : Type 0} (m : Meaning K V P) where
 
 -- one relation after another
 
--- what has what it had is idle where it was
+-- a flusher that has what it had is idle if it was
 pub keeps_idle : {C F : Type 0} (filter : Option F) (f : ℕ) (x y : State C) → KeepsOthers f x y → KeepsOthersIdle filter f x y
 keeps_idle filter f x y keeps none g ne idle = subst IsIdle (sym (keeps g ne)) idle
 
@@ -266,7 +266,7 @@ module _ {K V P A : Type 0} (m : Meaning K V P) (f : ℕ) (a b c : Core K V P A)
   pub flusher_more : {F : Type 0} (filter : Option F) (next : ℕ) → next ≡ f + 1 → Leads m (LeavesIdleBelow filter f) a b → Leads m (LeavesIdle filter f) b c → Leads m (LeavesIdleBelow filter next) a c
   flusher_more filter next is led idle = leads_more m (LeavesIdleBelow filter f) (LeavesIdle filter f) (LeavesIdleBelow filter next) a b c (below_then filter f next is) led idle
 
--- the same, where it is said whether the queue is taken up to its end
+-- the same, with a flag that says whether the queue is taken up to its end
 pub takes_all : {K V P A : Type 0} (m : Meaning K V P) (f : ℕ) (a b : Core K V P A) → Leads m (TakesQueue f) a b → Leads m (TakesQueueIf true f) a b
 takes_all m f a b led = λ s sound it at. let l = led s sound it at in (l.0, l.1, (l.2.0, λ is. l.2.1))
 

@@ -34,7 +34,7 @@ use Rattle.foyer_core_run.proofs.ListLemmas.{append_none, at_is}
 use Rattle.foyer_core_run.proofs.ReclaimRuns.{IsPartCome, began, begins, brought, ended, ends, gives, scan_of}
 use Rattle.foyer_core_run.proofs.StepLemmas.{AreUnread, due_more, unread_goes}
 
--- where no read is noted none is due
+-- if no read is noted, none is due, or none was issued in this run
 not_noted : (before : Option Scan) (x : Option Part) (scan : Option Scan) → IsScanDue before x scan → x ≡ None → (IsUnscanned scan → ⊥) ⊎ (scan ≡ before)
 not_noted before None scan is e = elim is [ inl same ↦ inr same | inr none ↦ inl none ]
 not_noted before (Some part) scan is e = absurd (let f : Some part ≡ None = e in cc)

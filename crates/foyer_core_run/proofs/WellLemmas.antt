@@ -1,4 +1,4 @@
--- That a run's events went well, by what was answered and where no access failed.
+-- That a run's events went well, by what was answered and if no access failed.
 use Rattle.std.proofs.Common.{◌≡◌, ℕ, Bool, true, false, not, ◌||◌, List, [], ◌∷◌, ◌++◌, inl, inr, refl, sym, ap, subst, ◌∙◌}
 use Rattle.std.proofs.lemmas.Bool.{or_parts}
 use Rattle.foyer_core_model.specs.Kind.{Kind}

@@ -81,7 +81,7 @@ inside at offset n e = go (nat_le offset at) refl
         (grind (arith, nat_tests), grind (arith, nat_tests))
     go false gt = absurd (let f : false ≡ true = sym (ap (λ v. v && nat_lt at (offset + n)) gt) ∙ e in cc)
 
--- a write's bytes stand where it was
+-- the bytes of a write are stored where the write was
 laid_is : {A : Type 0} (old new : ℕ → ℕ → ℕ) (block : ℕ) (w : Write A) (g : ℕ → ℕ) → ((o : ℕ) → g o ≡ old block o)
     → IsWritten old block w.offset (written_bytes w.bytes) new → (o : ℕ) → laid (write_of w) g o ≡ new block o
 laid_is old new block w g same is o = go (nat_le w.offset o && nat_lt o (w.offset + length (written_bytes w.bytes))) refl
@@ -136,7 +136,7 @@ module _ {K V P : Type 0} (m : Meaning K V P) (s : Settings) (sound : AreValid s
     running = running;
   }
 
-  -- where no note of a write is kept, none is due
+  -- if no note of a write is kept, none is due, or none was issued in this run
   pub none_noted : {A : Type 0} (before : BlockWrites) (said : List (Reply K V P A)) (x : Option Issued) (pending : BlockWrites) → IsDue before said x pending → x ≡ None
       → (due pending ≡ None) ⊎ (pending ≡ before)
   none_noted before said None pending is e = elim is [ inl same ↦ inr same | inr none ↦ inl none ]
@@ -150,12 +150,12 @@ module _ {K V P : Type 0} (m : Meaning K V P) (s : Settings) (sound : AreValid s
   left_writes : {A : Type 0} (said : List (Reply K V P A)) (x : Issued) (pending : BlockWrites) → (is : IsIssued said x pending) → write_at (slice_get said x.reply) x.next ≡ slice_get is.writes.items x.next
   left_writes said x pending is = ap (λ o. write_at o x.next) is.reply
 
-  -- where none is left, none is due
+  -- if no write is left, none is due
   pub none_left : {A : Type 0} (said : List (Reply K V P A)) (x : Issued) (pending : BlockWrites) → IsIssued said x pending → write_at (slice_get said x.reply) x.next ≡ None → due pending ≡ None
   none_left said x pending is none =
       is.due ∙ ap (λ ws. next_of x.block (map write_of ws)) (drop_past is.writes.items x.next (sym (left_writes said x pending is) ∙ none))
 
-  -- how the write is noted afterwards: the block's next one where it has another
+  -- how the write is noted afterwards: as the block's next write if it has another
   abbrev pub IsNotedOn : {A : Type 0} → ℕ → Issued → Bool → Reply K V P A → (old new : List (Option Issued)) → Type 0
   IsNotedOn f x ok answer old new =
       ((ok ≡ true) × (answer ≡ reply.Next) × (new ≡ slice_set (slice_set old f None) f (Some (next_issued x))))

@@ -37,7 +37,7 @@ use Rattle.foyer_core_run.proofs.WaitingLemmas.{all_join}
 use Rattle.foyer_core_run.proofs.WriteLemmas.{IsDone, bytes_are, torn_is, torn_of}
 
 module _ {K V P A : Type 0} (m : Meaning K V P) where
-  -- From each world whose core and bytes are those before, by steps of a wait and accesses that didn't fail, to one where
+  -- Steps of a wait and accesses that didn't fail lead from each world with the old core and bytes to a later world. There
   -- these writes into a block are due of the flusher.
   abbrev pub WritesSoFar : (f b : ℕ) (left : List (Write A)) → (old new : Core K V P A) → (old_bytes new_bytes : ℕ → ℕ → ℕ) → Type 0
   WritesSoFar f b left old new old_bytes new_bytes =

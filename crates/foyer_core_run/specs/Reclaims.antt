@@ -77,7 +77,7 @@ module _ {K V P A : Type 0} (m : Meaning K V P) where
   abbrev pub Reclaims : Reply K V P A → (old new : Core K V P A) → (old_bytes new_bytes : ℕ → ℕ → ℕ) → Type 0
   Reclaims last old new old_bytes new_bytes = DrivesBy (IsReclaim last) m old new old_bytes new_bytes
 
-  -- from each state of the model that the core stood for, a reclaim is done, or its last step was handed back
+  -- from each state of the model that the core stood for, a reclaim is done, or its last step was returned
   abbrev pub IsOver : Core K V P A → Reply K V P A → Type 0
   IsOver old last = (s : Settings) → AreValid s → (it : State Content) → IsStateOf m s old it → (last ≡ reply.Done) ⊎ IsHandedBack last
 

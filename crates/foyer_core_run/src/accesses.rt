@@ -1,4 +1,4 @@
-//! A load and a block's writes, each with its accesses in their place.
+//! A load, and the writes of a block, with their accesses of the disk.
 ghost use Rattle.std.specs.Prelude.{ℕ, List, ◌++◌, ◌≡◌, ◌∷◌, [], true, false, OnErr, IfOk, IfSome, IfNone, ◌≤◌};
 ghost use Rattle.foyer_core_run.specs.Honest.{FailsAtRead, FailsForCause};
 ghost use Rattle.foyer_io_disk.specs.Disk.{SurelyCame};
@@ -32,7 +32,8 @@ use foyer_io_disk::disk::Disk;
 use foyer_policy_filter::StorageFilterCondition;
 use std::alloc::{AllocError, Allocator};
 
-/// Applies a step that brings no result of an access and issues no write: a run of the move that is this step.
+/// Applies a step. Requires that the step reports no access of the disk and isn't a `FlushBlock`. This is a run of the move with the step's
+/// name.
 pub fn step<K, V, P, A, E, C>(
     core: &mut Core<K, V, P, A>,
     env: &mut Env<E, C>,
@@ -60,7 +61,7 @@ where
     core.apply(env, given)
 }
 
-// Puts back the buffer that was read into, if it came back.
+// Puts the buffer that was read into back into `spare`, if the core returned the buffer.
 fn put_back<A: Allocator>(spare: &mut Vec<u8, A>, buffer: Option<Vec<u8, A>>)
     ensures back { IfSome buffer (λ bytes. spare.new ≡ bytes) }
     ensures stays { IfNone buffer (spare.new ≡ spare.old) }
@@ -70,18 +71,19 @@ fn put_back<A: Allocator>(spare: &mut Vec<u8, A>, buffer: Option<Vec<u8, A>>)
     }
 }
 
-/// Looks a hash up, does the read that the look-up issues, and brings the result to the core. Gives what the load answers.
+/// Looks a hash up, does the read that the look-up issues, and reports the result to the core. Gives the core's answer.
 ///
-/// An entry is the newest put of the hash, whatever led to this core. If the newest event of the hash is a put, that put is
-/// answered, or `Refused` for a failed read or for memory. Another answer has one of these causes: the caller throttles, a
-/// reclaim of the put's block or a destroy began, or fewer than two steps are left.
+/// If the answer is an entry, this entry is the newest put of the hash in every history that led to this core. If the newest event of the
+/// hash is a put, the load answers this put, or `Refused` for a failed read or for memory. Another answer has one of these causes: the
+/// caller throttles; since the put, a reclaim of its block began or a destroy cleared the index; fewer than two steps are left; or an
+/// opening found the record, and it is damaged, undecodable (`Parse`) or unsupported (`Unsupported`).
 ///
-/// `Err` is a refused allocation. Then nothing was read, and the load never ends. The read goes into the memory of `spare`,
-/// whatever it holds. Only a step that is handed back keeps that memory.
+/// `Err` is a refused allocation. Then nothing was read, and the load never ends. The read goes into the memory of `spare`, whatever it
+/// holds. After `Err`, `spare` may be empty. It is also empty if the answer returns a step with the bytes that were read.
 ///
-/// `Refused` for `Io` is only answered if the index has an address of the hash, and the read of that address failed. The read
-/// doesn't fail if the disk surely has that range. It doesn't fail either if the range surely lies in the disk and no fault was
-/// counted. If the disk's bytes aren't known, nothing else is claimed about the answer.
+/// `Refused` for `Io` is only answered if the index has an address of the hash, and the read of that address failed. The read doesn't fail
+/// if the disk surely has that range. It doesn't fail either if the range surely lies in the disk and no fault was counted. If the disk's
+/// bytes aren't known, nothing else is claimed about the answer.
 pub fn load<K, V, P, A, D, E, C>(
     core: &mut Core<K, V, P, A>,
     env: &mut Env<E, C>,
@@ -134,13 +136,14 @@ where
     Ok(reply)
 }
 
-/// Asks a flusher for a block, does the writes that the reply issues in their order, and reports each write. Gives the last
-/// answer, which never asks for another write. Gives `None` if the block has no write, or if no report ended the block. After a
+/// Asks the core for the next block of a flusher's batch, does the writes that the reply issues, in order, and reports each write. Gives
+/// the last answer, which never asks for another write. Gives `None` if the block has no write, or if no report ended the block. After a
 /// write that failed, and after a report that didn't ask for the next write, the block's other writes aren't done.
 ///
-/// `Failed` is only answered if a write that was issued failed, or if the index had to grow for the block's records. If a write
-/// is reported as failed, it isn't sure that the write came. If the disk's bytes aren't known, only three things are claimed: the
-/// causes of `Failed`, that the last answer asks for no other write, and that the other flushers keep what they have.
+/// `Failed` is only answered if a write that was issued failed, or if the index had to grow for the block's records. A write isn't reported
+/// as failed if the disk surely has its range. Nor is a write whose range surely lies in the disk, if no fault was counted. If the disk's
+/// bytes aren't known, only three things are claimed: the causes of `Failed`, that the last answer asks for no other write, and that the
+/// other flushers keep what they have.
 pub fn write_block<K, V, P, A, D, E, C>(
     core: &mut Core<K, V, P, A>,
     env: &mut Env<E, C>,
@@ -201,8 +204,8 @@ where
     None
 }
 
-/// A history that led to a core and bytes goes on to those that they are driven to: so it does from an opening on, over
-/// any calls that drive a core, one after the other.
+/// Take a history that led to a core and bytes. If a call drives them to another core and other bytes, more events lead the history there.
+/// So a history from an opening extends over any sequence of such calls.
 pub fn histories_go_on<K, V, P, A>()
     ensures { (m : Meaning K V P) (s : Settings) (sound : AreValid s) (first : World Content) (events : List (WorldEvent Content))
         (old new : Core K V P A) (bytes bytes' : ℕ → ℕ → ℕ) → IsHistory m s sound first events old bytes → Drives m old new bytes bytes'

@@ -1,4 +1,4 @@
-//! The begin of a batch, with its marks in the log of deletes.
+//! How a batch begins, and its marks are appended to the log of deletes.
 ghost use Rattle.std.specs.Prelude.{◌≡◌, ℕ};
 ghost use Rattle.foyer_core_laws.specs.Content.{meaning};
 ghost use Rattle.foyer_core_steps.specs.Refines.{Refines};
@@ -17,9 +17,9 @@ use foyer_format_record::serde::{Code, Properties};
 use foyer_policy_filter::StorageFilterCondition;
 use std::alloc::Allocator;
 
-/// Begins a flusher's batch, appends the batch's marks to the log, and brings the log's result to the core. Gives the
-/// answer to the begin. If no batch begins, the log is left alone. If the core's settings have no log of deletes, the
-/// step that brings the result is out of turn.
+/// Begins a flusher's batch, appends the batch's marks to the log, and reports the log's result to the core. Gives the answer to
+/// `FlushBegin`. If no batch begins, the log isn't touched. The marks are appended even if the core's settings have no log of deletes. The
+/// report is out of turn then.
 pub fn begin_batch<K, V, P, A, L, E, C>(
     core: &mut Core<K, V, P, A>,
     env: &mut Env<E, C>,

@@ -17,7 +17,7 @@ use foyer_io_disk::disk::Disk;
 use foyer_policy_filter::StorageFilterCondition;
 use std::alloc::Allocator;
 
-// Cleans a block for a destroy, and brings what came of it.
+// Cleans a block for a destroy, and reports the outcome to the core.
 fn clean<K, V, P, A, D, E, C>(
     core: &mut Core<K, V, P, A>,
     env: &mut Env<E, C>,
@@ -50,9 +50,9 @@ where
     )
 }
 
-/// Clears the index, once a destroy has begun and nothing is under way. Then cleans each block and brings each result to the
-/// core. Gives the last answer, which is `Destroyed` unless the limit of steps came first. Gives `Err` if the index wasn't
-/// cleared, with the step that was out of turn or refused.
+/// Clears the index, if a destroy has begun, no flusher has anything queued, received or in a batch, and no reclaim runs. Then cleans each
+/// block and reports each result to the core. Gives the last answer, which is `Destroyed` unless the limit of steps was reached first.
+/// Gives `Err` if the index wasn't cleared, with the step that was out of turn or refused.
 ///
 /// A clean that fails doesn't end the destroy. A clean is only reported as failed if the disk failed an access, or if it isn't
 /// sure that the block's first page lies in the disk. If the index was cleared and the disk's bytes aren't known, it is only

@@ -1,4 +1,4 @@
-//! Runs of the core over a disk: each access that a reply issues is done once, and its true result is brought.
+//! Runs of the core over a disk: an access that a reply issues is done at most once, and its result is reported to the core.
 #![tactic(auto)]
 
 pub mod accesses;

@@ -31,8 +31,7 @@ use std::alloc::{AllocError, Allocator};
 use steps::apply_step;
 use writes::{flush_block, flush_wrote};
 
-/// A step without its result: a run does the access that was issued, and brings what came of it. Each variant is the step of
-/// its name.
+/// A step without the disk's result: a run does the access that was issued, and reports the outcome by the step of the same name.
 #[derive(Drop)]
 pub enum Move<K, V, P, A: Allocator> {
     Enqueue {
@@ -70,7 +69,7 @@ pub enum Move<K, V, P, A: Allocator> {
     FlushWrote {
         flusher: u32,
     },
-    /// Brings the outcome of the log.
+    /// Reports the outcome of the log.
     LogWrote {
         flusher: u32,
         result: Result<()>,
@@ -226,16 +225,15 @@ where
     Ok(kept)
 }
 
-/// Runs the moves in order, and gives the replies of those that were steps.
+/// Runs the moves in order, and gives the replies of those that weren't passed over.
 ///
-/// An access that a reply issued is done once, when its move comes. A fault of the disk is the result of the step. A move is
-/// passed over if its access wasn't issued in this run or is done already. A write is also passed over if it is behind a write
-/// that failed, or behind one whose report came back. If memory is refused for what a reclaim reads, that is a fault of the
-/// read. A write, a clean and the read of a load only fail if the disk failed an access, or if it isn't sure that their bytes
-/// lie in the disk.
+/// An access that a reply issued is done once, when its move comes. A fault of the disk is the result of the step. A move is passed over if
+/// its access wasn't issued in this run or is done already. A write is also passed over if an earlier write of its block failed, or if the
+/// core returned the report of one. If memory is refused for what a reclaim reads, that is a fault of the read. A write, a clean and the
+/// read of a load fail for two causes alone. The disk failed an access, or it isn't sure that their bytes lie in the disk.
 ///
-/// Error: `Memory` if there was no memory for the result of a load or for the list of replies. Then only some front of the
-/// moves was run, and the other moves are dropped.
+/// Errors: `Memory` if memory was refused for the read of a load, or for a list that the run keeps. Then only the first moves, up to some
+/// number, were run, and the others are dropped.
 pub fn run<K, V, P, A, D, E, C>(
     core: &mut Core<K, V, P, A>,
     env: &mut Env<E, C>,

@@ -24,13 +24,13 @@ use foyer_io_disk::disk::Disk;
 use foyer_policy_filter::StorageFilterCondition;
 use std::alloc::{Allocator, Global};
 
-/// Opens a core with what the disk's blocks give in the mode, and with the marks of deletes. Then runs the moves over the
-/// core with what is lent, and gives their replies. Errors: `Config` if the settings don't go together; `Recover` if a read
-/// failed in `Strict`; `SequenceEnd` if what was found, or a mark, has the last sequence; `Memory` at any time.
+/// Opens a core with what the disk's blocks give in the mode, and with the marks of deletes. Then runs the moves over the core with `env`,
+/// and gives their replies. Errors: `Config` if the settings don't go together; `Recover` if a read failed in `Strict`; `SequenceEnd` if
+/// what was found, or a mark, has the last sequence; `Memory` at any time.
 ///
-/// The replies are those of events of a world. The world began with what was found over the disk's bytes. What a load
-/// answers was newest of its hash at its look-up. What was newest is answered, or is missed for a named cause. What was put
-/// was found at the opening, or is what was enqueued.
+/// If the disk's bytes are known, the replies are those of a run of the model that began with what was found over them. An entry that a
+/// load answers was newest of its hash at the look-up. The newest put of a hash is answered, or is missed for a named cause. Each put was
+/// found at the opening, or is of a piece that was enqueued.
 pub fn open_and_run<K, V, P, A, D, E, C>(
     alloc: A,
     env: &mut Env<E, C>,
@@ -62,9 +62,9 @@ where
     Ok(replies)
 }
 
-/// Opens a core over zeroed memory and runs the moves as `open_and_run` does, with the default pickers. Keys are numbers,
-/// and values are texts. At first nothing of the memory is read. Errors: `Memory`; `Config` if the settings don't go
-/// together; `OutOfRange` if the product of the sizes passes the type's end.
+/// Opens a core over zeroed memory in the mode `None`, without marks, and runs the moves as `open_and_run` does, with the default pickers.
+/// Keys are numbers, and values are texts. Errors: `Memory`; `Config` if the settings don't go together; `OutOfRange` if the blocks have
+/// 2^64 bytes or more.
 pub fn run_texts<P: Properties + Drop>(
     alloc: Global,
     settings: Settings,

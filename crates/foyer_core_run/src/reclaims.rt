@@ -1,4 +1,4 @@
-//! A reclaim of a block, with its accesses in their place.
+//! A reclaim of a block, with its accesses of the disk.
 ghost use Rattle.std.specs.Prelude.{◌≡◌, ℕ, Some, None, ◌≤◌};
 ghost use Rattle.foyer_core_laws.specs.Content.{meaning};
 ghost use Rattle.foyer_core_run.specs.AtRest.{KeepsIdle, Leads, Without};
@@ -18,7 +18,7 @@ use foyer_io_disk::disk::Disk;
 use foyer_policy_filter::StorageFilterCondition;
 use std::alloc::Allocator;
 
-// Reads a part for the reclaim of a block and brings it to the core, or brings a fault if memory for it is refused. Gives the
+// Reads a part for the reclaim of a block and reports it to the core. If the core refuses the report, it reports a fault instead. Gives the
 // part that is to be read next, if there is one.
 fn read_part<K, V, P, A, D, E, C>(
     core: &mut Core<K, V, P, A>,
@@ -105,14 +105,14 @@ where
     }
 }
 
-/// Reclaims a block, if a reclaim may begin. Reads each index of the picked block and each record that is to be written again,
-/// and brings them to the core. Then forgets the other entries and cleans the block. Gives the last answer: `Done` once the block
-/// may be written again, or the step that was out of turn or refused.
+/// Reclaims a block, if a reclaim may begin. Reads each index of the picked block and each record that is to be written again, and reports
+/// them to the core. Then takes the other listed entries out of the index and cleans the block. Gives the last answer: `Done` once the
+/// block may be written again, or the step that was out of turn or refused.
 ///
-/// A read or a clean that fails doesn't end the reclaim. The clean is only reported as failed if the disk failed an access, or if
-/// it isn't sure that the block's first page lies in the disk. If the disk's bytes aren't known, two things are claimed. The last
-/// answer is as said above. If there is no filter of reinsertions, idle flushers stay idle. With a filter, records are queued at
-/// flushers in turn.
+/// A read that fails ends the reading, but not the reclaim. A clean that fails doesn't end the reclaim either. The clean is reported as
+/// failed only if the disk failed an access, or the block's first page may lie outside the disk. If the disk's bytes aren't known, two
+/// things are claimed. The last answer is as said above. If there is no filter of reinsertions, idle flushers stay idle. With a filter,
+/// records are queued at flushers in turn.
 pub fn reclaim_block<K, V, P, A, D, E, C>(
     core: &mut Core<K, V, P, A>,
     env: &mut Env<E, C>,

@@ -36,7 +36,7 @@ pub struct Reopened<K, V, P, A: Allocator> {
     pub disk: MemoryDisk<A>,
 }
 
-// Opens a core over zeros, of which nothing is read, runs the moves over it, and lets the core go.
+// Opens a core over zeros in the mode `None`, runs the moves over it, and drops the core.
 fn run_over_zeros<K, V, P, A, D, E, C>(
     alloc: A,
     env: &mut Env<E, C>,
@@ -92,15 +92,15 @@ where
     Core::open(alloc, env, settings, disk, mode, &[])
 }
 
-/// Opens a core over zeroed memory, of which nothing is read, and runs the moves over it with what is lent first. Then
-/// stops: the core is gone, and what was issued and not done stays undone. Then opens a core of the same sizes in the mode
-/// on the bytes that are left, with what is lent second. Errors: `Memory`; `Config` if the settings don't go together;
-/// `OutOfRange` if the product of the sizes passes the type's end; `SequenceEnd` if what was found has the last sequence;
-/// `Recover` if the blocks can't be read, for which memory gives no cause.
+/// Opens a core over zeroed memory in the mode `None`, and runs the moves over it with `first`. Then stops: the core is dropped, and what
+/// was issued and not done stays undone. Then opens a core of the same sizes in `mode`, on the bytes that are left, with `second`. Errors:
+/// `Memory`; `Config` if the settings don't go together; `OutOfRange` if the blocks have 2^64 bytes or more; `SequenceEnd` if what was
+/// found has the last sequence; `Recover` if the blocks can't be read, for which memory gives no cause.
 ///
-/// The next claims hold if the run's events went well, its bytes have no stray index, and blocks are read. The new core has
-/// each address that the run's index had, or a newer record of its hash, unless the block of the address was being written.
-/// If no flush was under way, the new core has each of these addresses. What it has again was newest at the stop.
+/// The next claims hold if `mode` isn't `None`, the run's events went well, and the bytes have no stray index. A stray index is one that a
+/// scan finds, and that the run didn't write or begin to write there. The new core has each address that the run's index had, or a newer
+/// record of its hash. The exception is an address whose block was being written. If no flusher was writing a block, the new core has each
+/// of these addresses. If it has one of them, the newest event of its hash is the one that was newest at the stop.
 ///
 /// The run's events went well if no access failed, no reply is `Failed`, and no verdict of a reply admits an entry for
 /// reinsertion. This is also true of runs with reclaims.

@@ -11,8 +11,8 @@ pub const DEFAULT_BLOB_INDEX_SIZE: usize = PAGE;
 /// The least number of shards of the index if no number is given.
 pub const MIN_DEFAULT_INDEXER_SHARDS: usize = 64;
 
-/// If no number of shards is given, the index has a shard for each so many bytes of the capacity: 512 pages. An insertion
-/// moves what stands after it in its shard. So it moves at most 24 KiB if each record takes a page.
+/// The default number of shards leaves each shard at most this many bytes of the capacity: 512 pages. An insertion moves the entries after
+/// its own in the shard. These are at most 24 KiB if the hashes spread evenly and each record takes a page.
 pub const DEFAULT_SHARD_CAPACITY: usize = 512 * PAGE;
 
 /// The number of flushers if none is given.
@@ -33,7 +33,7 @@ pub const DEFAULT_CLEAN_BLOCK_THRESHOLD: usize = 1;
 /// Whether deletes are logged if nothing is said.
 pub const DEFAULT_TOMBSTONE_LOG: bool = false;
 
-/// The greatest block: offsets in a block have 32 bits.
+/// The greatest size of a block in bytes: offsets in a block have 32 bits.
 pub const MAX_BLOCK_SIZE: usize = 1 << 32;
 
 /// The sizes that a core is opened with.
@@ -49,10 +49,10 @@ pub struct Settings {
     pub flushers: u32,
     /// Into how many shards the index is divided.
     pub indexer_shards: usize,
-    /// The limit of the sum of the queued pieces' sizes, in bytes. If the sum is more, a piece isn't taken, and its hash is
+    /// The limit of the sum of the queued pieces' sizes, in bytes. If the sum is more, a piece that isn't young is dropped, and its hash is
     /// deleted.
     pub submit_queue_size_threshold: usize,
-    /// The bytes of all flushers' buffers together, of which each has an equal share of whole pages.
+    /// The bytes of all flushers' buffers together. Each flusher's buffer is an equal share, in whole pages.
     pub buffer_pool_size: usize,
     /// How many reclaims may run at a time.
     pub reclaimers: u32,
@@ -73,7 +73,7 @@ pub fn default_indexer_shards(blocks: u32, block_size: usize) -> usize
 }
 
 impl Settings {
-    /// So many blocks of this size; all else at its default.
+    /// Gives settings of `blocks` blocks of `block_size` bytes each. All else is at its default.
     pub fn new(blocks: u32, block_size: usize) -> Settings
         ensures sizes { (result.blocks ≡ blocks) × (result.block_size ≡ block_size) }
         ensures defaults { (result.blob_index_size ≡ 4096) × (result.flushers ≡ 1)
@@ -96,15 +96,15 @@ impl Settings {
         }
     }
 
-    /// Gives the same sizes, except that so many reclaims may run at a time. Default: `DEFAULT_RECLAIMERS`.
+    /// Gives the same settings, except that `reclaimers` reclaims may run at a time. Default: `DEFAULT_RECLAIMERS`.
     pub fn with_reclaimers(self, reclaimers: u32) -> Settings
         ensures { result ≡ record self { reclaimers = reclaimers } }
     {
         Settings { reclaimers, ..self }
     }
 
-    /// Gives the same sizes, except that a reclaim may begin below so many clean blocks. With 0, a reclaim only begins for a
-    /// flusher that waits. Default: `DEFAULT_CLEAN_BLOCK_THRESHOLD`.
+    /// Gives the same settings with this clean block threshold. With 0, a reclaim begins only if a flusher waits for a block. Default:
+    /// `DEFAULT_CLEAN_BLOCK_THRESHOLD`.
     pub fn with_clean_block_threshold(self, clean_block_threshold: usize) -> Settings
         ensures { result ≡ record self { clean_block_threshold = clean_block_threshold } }
     {
@@ -114,7 +114,7 @@ impl Settings {
         }
     }
 
-    /// The same sizes, with a log of deletes or without one. Default: `DEFAULT_TOMBSTONE_LOG`.
+    /// Gives the same settings, with a log of deletes or without one. Default: `DEFAULT_TOMBSTONE_LOG`.
     pub fn with_tombstone_log(self, tombstone_log: bool) -> Settings
         ensures { result ≡ record self { tombstone_log = tombstone_log } }
     {
@@ -134,10 +134,10 @@ impl Settings {
         self.buffer_pool_size / self.flushers as usize / PAGE * PAGE
     }
 
-    /// Says whether the sizes go together. Error: `Config` if they don't. They don't if there is no flusher, no shard or no
-    /// reclaimer, if there are fewer blocks than flushers, or if flushers and reclaimers together are 2^32 or more. They
-    /// don't if a block or a blob index isn't whole pages, if a blob index has no page, if a block is larger than an offset
-    /// can say, or if it has no room behind its first index. They don't if the pool has no page for each flusher.
+    /// Checks whether the sizes go together. Errors: `Config` unless all of this holds. There is a flusher, a shard and a reclaimer. There
+    /// are at least as many blocks as flushers. Flushers and reclaimers together are below 2^32. A block and a blob index are whole pages.
+    /// A blob index has a page, and is smaller than a block. A block has at most `MAX_BLOCK_SIZE` bytes. The pool has a page for each
+    /// flusher.
     pub fn check(&self) -> Result<()>
         ensures sound { IsOk result ↔ AreValid self.now }
         ensures refused { IsOkUnless result Error.Config }

@@ -57,7 +57,7 @@ with_one Other c = λ i. record { queued = plus_none c.queued i; dropped = plus_
 pub tallied_more : (notes : List Brief) (note : Brief) → tallied (notes ++ note ∷ []) ≡ grown (kind_of note) (tallied notes)
 tallied_more notes note = (λ i. record { queued = count_more Queued notes note i; dropped = count_more Dropped notes note i; deleted = count_more Deleted notes note i; read = count_more Read notes note i; look_up_miss = count_more LookUpMiss notes note i; entry = count_more Entry notes note i; end_miss = count_more EndMiss notes note i; other = count_more Other notes note i }) ∙ with_one (kind_of note) (tallied notes)
 
--- notes are there before the first step where they are kept, and after each one more
+-- notes are there before the first step if they are kept, and stay there with each further note
 pub some_first : (keeps : Bool) → is_some (notes_at_first keeps) ≡ keeps
 some_first false = refl
 some_first true = refl
@@ -177,7 +177,7 @@ module _ {K V P A : Type 0} (m : Meaning K V P) where
   notes_tallied : (core : Core K V P A) (notes : List Brief) (calls : Counts) → IsNoted m core (Some notes) calls → tallied notes ≡ calls
   notes_tallied core notes calls is = ap tallied is.kept ∙ sym is.count
 
-  -- the book's numbers are those of the notes, where these are kept
+  -- the book's numbers are those of the notes, if notes are kept
   pub noted_tallies : (core : Core K V P A) (kept : Option (List Brief)) (calls : Counts) → ∥ IsNoted m core kept calls ∥₁ → (notes : List Brief) → kept ≡ Some notes → tallied notes ≡ calls
   noted_tallies core kept calls noted notes is = λ i. record { queued = same (λ c. c.queued) i; dropped = same (λ c. c.dropped) i; deleted = same (λ c. c.deleted) i; read = same (λ c. c.read) i; look_up_miss = same (λ c. c.look_up_miss) i; entry = same (λ c. c.entry) i; end_miss = same (λ c. c.end_miss) i; other = same (λ c. c.other) i }
     where

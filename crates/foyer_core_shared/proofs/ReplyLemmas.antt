@@ -224,7 +224,7 @@ module _ (rules : Rules Content) (Splits : Splitting Content) (old : State Conte
   end_refused t (Err e) kind.Unsupported k is may = absurd ((subst (λ j. MayRefuse rules Splits old j (model_step.LoadEnd t model_step.Fault)) (sym (some_same model_reply.Unsupported k is)) may).1)
   end_refused t (Err e) kind.SequenceEnd k is may = refl
 
-  -- a load ends otherwise only where its read went well
+  -- a load ends otherwise only if its read went well
   has_read : {A : Type 0} (t : model_step.Ticket) (outcome : Result (Vec ℕ A) Error) (r : model_reply.Reply Content) (new : State Content) → Ends rules old t (came_of outcome) r new → went_well outcome ≡ true
   has_read t (Ok bytes) r new is = refl
   has_read t (Err e) r new is = absurd is

@@ -26,7 +26,7 @@ abbrev pub LooksUp : {K V P A : Type 0} → Step K V P A → Ticket → Type 0
 LooksUp (step.LoadBegin hash throttled) ticket = (ticket.hash ≡ hash) × (throttled ≡ false)
 LooksUp given ticket = ⊥
 
--- A step that is handed back, and a piece, are those that were given; a pair is that of the bytes that the step brought; the
+-- A step that is returned, or a piece, is the one that was given. A pair is that of the bytes that the step brought. The
 -- other replies are to the steps that they answer.
 abbrev pub IsAnswer : {K V P A : Type 0} → (List ℕ → Bool) → (List ℕ → Bool) → (K → List ℕ) → (V → List ℕ) → Step K V P A → Reply K V P A → Type 0
 IsAnswer is_key is_value key_of value_of given (reply.NotNow back) = back ≡ given

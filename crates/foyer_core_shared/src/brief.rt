@@ -43,8 +43,8 @@ fn listed_in<A: Allocator>(verdicts: &Option<Vec<bool, A>>) -> Option<usize>
     }
 }
 
-/// A step, without the piece or the bytes that it brings. Each variant is the step of its name. Sizes are in bytes, and an outcome
-/// is how many bytes were read, or the kind of the fault.
+/// A step, without its piece or the bytes that were read. Each variant is the step of its name. Sizes are in bytes. The outcome of a read
+/// is how many bytes it gave. The outcome of a failed access is the kind of the fault.
 #[derive(Clone, Copy, Debug, PartialEq, Eq)]
 pub enum StepBrief {
     Enqueue {
@@ -111,9 +111,9 @@ pub enum StepBrief {
     Close,
 }
 
-/// A reply, without the pieces, pairs and lists that it has, but with how long these are. Each variant is the reply of its name;
-/// `HandedBack` is a `Received` with a
-/// piece; `listed` is how many entries of an index were judged.
+/// A reply, without its steps, pieces and pairs, and with the length of each list in place of the list. Each variant is the reply of its
+/// name. `HandedBack` is a `Received` with a piece. `asked` is how many pickers answered, and `listed` is how many entries of an index were
+/// judged.
 #[derive(Clone, Copy, Debug, PartialEq, Eq)]
 pub enum ReplyBrief {
     NotNow,
@@ -175,7 +175,7 @@ pub struct Brief {
 }
 
 impl StepBrief {
-    /// Of this step.
+    /// Gives the brief of this step.
     pub fn of<K, V, P, A: Allocator>(step: &Step<K, V, P, A>) -> StepBrief
         ensures { result ≡ step_brief step.now }
     {
@@ -249,7 +249,7 @@ impl StepBrief {
         }
     }
 
-    // Of the step that brings what was read for a ticket.
+    // Gives the brief of the `LoadEnd` with this ticket and outcome.
     pub(crate) fn of_load<A: Allocator>(
         ticket: Ticket,
         outcome: &Result<Vec<u8, A>, Error>,
@@ -264,7 +264,7 @@ impl StepBrief {
 }
 
 impl ReplyBrief {
-    /// Of this reply.
+    /// Gives the brief of this reply.
     pub fn of<K, V, P, A: Allocator>(reply: &Reply<K, V, P, A>) -> ReplyBrief
         ensures { result ≡ reply_brief reply.now }
     {

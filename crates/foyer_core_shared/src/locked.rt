@@ -1,5 +1,5 @@
-//! The core, what it is lent, and what is noted of its steps, as they lie behind the lock; and the sessions that ask it. Both
-//! stand in one module, so that a step of the core is the only way to write into either.
+//! What lies behind the lock: the core, the `Env` that it borrows, and the notes of its steps. Also the sessions that ask the core. All are
+//! in one module, so that only a step writes the core, its notes, or a session's briefs.
 ghost use Rattle.foyer_device_page.specs.declared.error.Error.TheVariants.{Memory};
 ghost use Rattle.foyer_core_steps.specs.Content.{meaning};
 ghost use Rattle.foyer_core_shared.specs.Behind.{HasRoom, kept_notes};
@@ -34,8 +34,8 @@ use foyer_policy_filter::{StorageFilter, StorageFilterCondition};
 use std::alloc::{Allocator, Global};
 use std::marker::{Model, PhantomData};
 
-/// A caller's shares of the book of steps, and what it asked last. Contracts see of how many parts each share is, and how many
-/// steps of each kind were noted with it.
+/// A caller's share of the book of steps, and its last two steps. Contracts see how many parts the share has, and how many steps of each
+/// kind were noted with it.
 pub struct Session<L: Kinds> {
     shares: Shares<L>,
     newest: Option<Brief>,
@@ -66,7 +66,8 @@ impl<L: Kinds> Model for Session<L> {
 }
 
 impl<L: Kinds> Session<L> {
-    /// The session that has all parts, and the book: for an engine without a core, of which no step is noted.
+    /// Gives an empty book, and the session that has all its parts: for an engine without a core, which notes no step. Requires that `L`
+    /// has the names and the number of parts of `blanks`.
     pub fn first(blanks: Blanks) -> (Books<L>, Session<L>)
         requires { AreOf L.name_of L.all blanks }
         ensures none { result.0 ≡ none }
@@ -84,7 +85,7 @@ impl<L: Kinds> Session<L> {
         (books, session)
     }
 
-    /// Gives so many parts away, and no briefs.
+    /// Splits off a session with this many parts, at least one and fewer than it has. The new session has no steps and no briefs.
     pub fn split(&mut self, parts: u64) -> Session<L>
         requires some { 0 < parts }
         requires fewer { parts < self.old.shares.parts }
@@ -123,7 +124,8 @@ impl<L: Kinds> Session<L> {
         self.destroys = self.destroys.saturating_add(destroys);
     }
 
-    // The newest brief is this one. `Locked::step` alone may write one, so that a session never names a step that wasn't made.
+    // Makes this the newest brief. Only `Locked::step` and `Locked::end_judged` call it, so that a session never names a step that wasn't
+    // made.
     fn note(&mut self, brief: Brief)
         ensures noted { (self.new.newest ≡ Some brief) × (self.new.before ≡ self.old.newest) }
         ensures shares { self.new.shares ≡ self.old.shares }
@@ -140,8 +142,8 @@ impl<L: Kinds> Session<L> {
     }
 }
 
-/// A core and the book that counts the steps made of it, by their kinds. If `N` says so, the steps' notes are there too. Some
-/// history of such steps leads from an opening to the core.
+/// A core, and the book that counts its steps by their kinds. If `N` says so, the steps' notes are there too. Some history leads from an
+/// opening to the core, with as many steps of each kind as the book counts.
 pub struct NotedCore<L, K, V, P, A, N>
 where
     L: Kinds,
@@ -204,7 +206,7 @@ where
         n.core (kept_notes n.notes) n.calls };
 }
 
-/// A noted core with what it is lent at each step.
+/// A noted core, with the `Env` that it borrows at each step.
 pub struct Locked<L, K, V, P, A, E, C, N>
 where
     L: Kinds,
@@ -310,8 +312,9 @@ where
     ghost use Rattle.foyer_core_shared.specs.History.{BeginAlike, BeginsWith, IsLegal, Made};
     ghost use Rattle.foyer_core_shared.specs.Replies.{may_reply};
 
-    /// Opens a core as `Core::open_with` does, with the session that has all parts. If `N` says so, the notes of all steps are
-    /// kept. They take memory as long as the core is there. `Memory` is also answered if an allocator's clone is refused.
+    /// Opens a core as `Core::open_with` does, with the session that has all parts. If `N` says so, the notes of all steps are kept. They
+    /// take memory as long as the core is there. `Memory` is also answered if an allocator's clone is refused. Requires that `L` has the
+    /// names and the number of parts of `blanks`.
     pub fn open<D: Disk>(
         alloc: A,
         mut env: Env<E, C>,
@@ -385,12 +388,11 @@ where
         self.mode
     }
 
-    /// Applies a step as `Core::apply` does, notes it, and counts it with the session's shares, as one of its kind. The session's
-    /// newest brief is then that of the step and of this very reply. A history that led to the core goes on by this step, and
-    /// keeps the opening that it began with. A filter that is asked is shown `io`.
+    /// Applies a step as `Core::apply` does, notes it, and counts it with the session's share, as one of its kind. The session must have a
+    /// part. The session's newest brief is then that of the step and of this very reply. A history that led to the core leads, with this
+    /// step added, to the new core. It has the same opening. A filter that is asked is passed `io`.
     ///
-    /// If notes are kept and memory for one is refused, the step comes back and nothing changed. No step comes back for another
-    /// cause.
+    /// If notes are kept and memory for one is refused, `Err` returns the step, and nothing changed. `Err` has no other cause.
     pub fn step(
         &mut self,
         session: &mut Session<L>,
@@ -443,7 +445,7 @@ where
         Ok(reply)
     }
 
-    /// The filter of what a reclaim has written again, or none, from now on; the one before comes back.
+    /// Sets the filter of reinsertions, or none, from now on, and gives the one before.
     pub fn replace_reinsertion(
         &mut self,
         filter: Option<StorageFilter<C, Global>>,
@@ -469,8 +471,8 @@ where
         self.noted.notes.as_ref()
     }
 
-    /// Shows that whoever has all parts knows how many steps of each kind were made. If notes are kept, there are so many notes
-    /// of the kind.
+    /// Changes nothing. Its contract says that the session with all parts knows how many steps of each kind were made. If notes are kept,
+    /// it also knows how many notes of each kind there are.
     pub fn audit(&mut self, all: &mut Session<L>)
         requires { all.old.shares.parts ≡ L.all }
         ensures count { self.new.noted.calls ≡ all.new.shares.amounts }

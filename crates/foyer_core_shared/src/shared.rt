@@ -71,7 +71,7 @@ where
     C: StorageFilterCondition,
     N: Noting,
 {
-    /// An opened core behind its lock (`Locked::open`), before its first step.
+    /// Puts a core (`Locked::open`) behind a lock.
     pub fn new(locked: Locked<L, K, V, P, A, E, C, N>) -> Shared<L, K, V, P, A, E, C, N>
         ensures { result.mode ≡ locked.mode }
     {
@@ -88,9 +88,9 @@ where
         self.mode
     }
 
-    /// Makes one step, under the lock. A filter that is asked is shown `io`. The session's newest brief is then that of this step
-    /// and of this very reply. There is one exception: if notes are kept and memory for this note is refused, the reply is
-    /// `Refused(Memory, step)`, and nothing is noted.
+    /// Makes one step, under the lock. The session must have a part. A filter that is asked is passed `io`. The session's newest brief is
+    /// then that of this step and of this very reply. There is one exception: if notes are kept and memory for this note is refused, the
+    /// reply is `Refused(Memory, step)`, and nothing is noted.
     pub fn step(
         &self,
         rt: &impl Wait,
@@ -110,8 +110,9 @@ where
         }
     }
 
-    /// Brings what was read for a ticket, as `step` does with a `LoadEnd`, and gives the buffer of the read back beside the reply, for
-    /// the next read. What was read is judged before the lock is taken: a pair takes its memory from this allocator.
+    /// Reports what was read for a ticket, as `step` does with a `LoadEnd`. Gives the buffer of the read back beside the reply, for the
+    /// next read, unless the read failed or the reply returns the step. What was read is judged before the lock is taken: a pair takes its
+    /// memory from this allocator.
     pub fn end_load(
         &self,
         rt: &impl Wait,
@@ -136,12 +137,12 @@ where
         }
     }
 
-    /// The lock of the core itself, for who makes a step beside another lock. No device is called under it.
+    /// Gives the lock of the core itself, for a caller that makes a step under another lock too. A step calls no device.
     pub fn locked(&self) -> &Mutex<Locked<L, K, V, P, A, E, C, N>> {
         &self.inside
     }
 
-    /// The filter of what reclaims have written again, or none, from now on; the one before comes back.
+    /// Sets the filter of reinsertions, or none, from now on, and gives the one before.
     pub fn replace_reinsertion(
         &self,
         rt: &impl Wait,
@@ -150,7 +151,7 @@ where
         self.inside.lock(rt).replace_reinsertion(filter)
     }
 
-    /// The core as the last step left it, for whoever has all parts: of each kind as many steps were made as the sessions noted.
+    /// Gives the core as the last step left it. Requires the session with all parts, which knows how many steps of each kind were made.
     pub fn close(self, all: &mut Session<L>) -> Locked<L, K, V, P, A, E, C, N>
         requires { all.old.shares.parts ≡ L.all }
         ensures count { result.noted.calls ≡ all.new.shares.amounts }

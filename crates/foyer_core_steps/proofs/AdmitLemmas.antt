@@ -67,7 +67,7 @@ pub put_behind : {X : Type 0} (xs : List X) (y : X) (ys : List X) → xs ++ y �
 put_behind [] y ys = refl
 put_behind (x ∷ xs) y ys = ap (λ l. x ∷ l) (put_behind xs y ys)
 
--- nothing is left out of a list where nothing was queued
+-- nothing is left out of a list if nothing was queued
 pub nothing_out : (requeued listed : List HashedEntryAddress) → length requeued ≡ 0 → listed ≡ left_in requeued listed
 nothing_out (r ∷ rs) listed none = absurd (omega arith)
 nothing_out [] listed none = go listed

@@ -124,7 +124,7 @@ cleans blocks b (destroy.Cleaning left first) it are waits = record {
   among = (are.2).same b ∙ waits;
 }
 
--- where the core doesn't await a clean, the model doesn't
+-- if the core doesn't await a clean, the model doesn't
 pub not_awaited : {A : Type 0} (blocks b : ℕ) (d : Destroy A) (it : model_state.Destroy) → IsDestroyAs blocks d it → AwaitsClean b it → awaits b d ≡ true
 not_awaited blocks b destroy.Absent it are waits = absurd (subst (AwaitsClean b) are waits)
 not_awaited blocks b destroy.Begun it are waits = absurd (subst (AwaitsClean b) are waits)

@@ -51,7 +51,7 @@ none_running zero reclaims none = refl
 none_running (suc n) reclaims none =
     ap (λ (o : Option model_state.Reclaim). (if is_some o then 1 else 0) + running n reclaims) (none n) ∙ ap (λ k. 0 + k) (none_running n reclaims none)
 
--- where none is counted, none runs
+-- if no reclaim is counted, none runs
 none_counted : (n : ℕ) (reclaims : ℕ → Option model_state.Reclaim) → running n reclaims ≡ 0 → (b : ℕ) → b < n → reclaims b ≡ None
 none_counted zero reclaims none b lt = absurd (omega arith)
 none_counted (suc n) reclaims none b lt = go (is_some (reclaims n)) refl (none_counted n reclaims)
@@ -105,7 +105,7 @@ made_of to [] f y e = absurd (let n : None ≡ Some y = e in cc)
 made_of to (x ∷ xs) zero y e = (x, refl, some_is e)
 made_of to (x ∷ xs) (suc f) y e = made_of to xs f y e
 
--- the whole list was lent
+-- the whole list was borrowed
 pub lent_all : {X : Type 0} (n : ℕ) (xs ys : List X) → length xs ≡ length ys → n ≡ length ys → take n (xs ++ drop (length xs) ys) ≡ xs
 lent_all n xs ys same all =
     ap (λ l. take n (xs ++ l)) (at_drop_all (λ l. l) ys (length xs) (omega arith)) ∙ ap (take n) (append-nil xs) ∙ take_all n xs (omega arith)

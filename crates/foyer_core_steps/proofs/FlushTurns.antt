@@ -46,7 +46,7 @@ pub went_is : {X : Type 0} (r : Result X Error) → is_ok r ≡ went_well r
 went_is (Ok x) = refl
 went_is (Err e) = refl
 
--- where there is a log, it has answered
+-- if there is a log, it has answered
 has_answered : (has_log : Bool) (answer logged : Option Bool) → logged ≡ answer → (has_log ≡ false) ⊎ IsSome answer
     → (has_log ≡ false) ⊎ ((ok : Bool) × (logged ≡ Some ok))
 has_answered has_log answer logged is (inl none) = inl none
@@ -166,7 +166,7 @@ module _ {K V P A : Type 0} (m : Meaning K V P) (s : Settings) where
   must_write own o None are is = absurd is
   must_write own None (Some it) are is = absurd are
 
-  -- the log hasn't answered for a flusher's batch, where it hasn't for the model's
+  -- the log hasn't answered for a flusher's batch exactly if it hasn't for the model's
   pub is_unlogged : (own : Option ℕ) (o : Option (Batch K V P A)) (p : Option (model_state.Batch Content)) → AreBatched m s own o p
       → IsSomeAnd o (λ batch. batch.logged ≡ None) → model.IsUnlogged p
   is_unlogged own (Some batch) (Some it) are none = are.logged ∙ none

@@ -42,7 +42,7 @@ module _ {K V P A : Type 0} (m : Meaning K V P) (s : Settings) where
         batch = stands.batch;
       }))
 
-  -- the same, where number and submission are issued in another way
+  -- the same, if number and submission are given in another way
   pub queue_pushed_at : (φs : List (Flusher K V P A)) (its : ℕ → model_state.Flusher Content) (f k : ℕ) (φ ψ : Flusher K V P A) (x : Submission K V P A) (y : model_state.Submission Content)
       → f ≡ k → submission_of m x ≡ y → AreFlushersAs m s (map seen φs) its → f < length φs → φ ≡ slice_index_or φs f φ
       → seen ψ ≡ record (seen φ) { queue = φ.queue.items ++ x ∷ [] }

@@ -21,7 +21,7 @@ use Rattle.foyer_block_manager.specs.Managed.{one_if}
 use Rattle.foyer_core_flusher.specs.Addresses.{listed_of}
 use Rattle.foyer_core_steps.specs.Reclaiming.{Reclaiming, IsReclaimAs, AreReclaimAs, IsAtRead, hashed_of, at_offset, chosen, is_entry, is_entry_among, left_in}
 
--- where a block's reclaim, its set and its filling are as they were, it stands for the same
+-- if a block's reclaim, its set and its filling are as they were, the reclaim stands for the same
 pub reclaim_kept : (s : Settings) (b : ℕ) (place place' : model_state.BlockSet) (filling filling' : ℕ)
     → is_reclaimed place' ≡ is_reclaimed place → (is_reclaimed place ≡ true → filling' ≡ filling)
     → (o : Option Reclaiming) (its : Option model_state.Reclaim) → AreReclaimAs s b place filling o its → AreReclaimAs s b place' filling' o its
@@ -31,7 +31,7 @@ reclaim_kept s b place place' filling filling' sets fillings (Some r) (Some it) 
 reclaim_kept s b place place' filling filling' sets fillings None (Some it) are = absurd are
 reclaim_kept s b place place' filling filling' sets fillings (Some r) None are = absurd are
 
--- one runs exactly where the block is reclaimed
+-- a reclaim runs exactly if its block is reclaimed
 pub runs_where : (s : Settings) (b : ℕ) (place : model_state.BlockSet) (filling : ℕ) (o : Option Reclaiming) (its : Option model_state.Reclaim)
     → AreReclaimAs s b place filling o its → is_some its ≡ is_reclaimed place
 runs_where s b place filling None None are = sym are
@@ -61,7 +61,7 @@ of_some s b place filling (Some q) (Some it) r are is =
 of_some s b place filling None its r are is = absurd (cc)
 of_some s b place filling (Some q) None r are is = absurd are
 
--- where none runs, none does in the model
+-- if no reclaim runs in the core, none does in the model
 pub of_none : (s : Settings) (b : ℕ) (place : model_state.BlockSet) (filling : ℕ) (o : Option Reclaiming) (its : Option model_state.Reclaim)
     → AreReclaimAs s b place filling o its → o ≡ None → (its ≡ None) × (is_reclaimed place ≡ false)
 of_none s b place filling None None are is = (refl, are)
@@ -148,7 +148,7 @@ abbrev pub stage_from : Settings → List (ℕ × model_record.Address) → ℕ 
 stage_from s [] q = if nat_le (q + s.blob_index_size) s.block_size then model_state.AtIndex q else model_state.AllListed
 stage_from s (p ∷ ps) q = model_state.AtRecord p.0 p.1 ps q
 
--- where a reclaim reads these records, and then an index where one has room
+-- where a reclaim reads these records, and then an index if one has room
 pub stage_read : (s : Settings) (es : List HashedEntryAddress) (q : ℕ)
     → IsAtRead (sizes_in s) (next_blob (sizes_in s) q) es (stage_from s (map listed_of es) q)
 stage_read s [] q = sym (stage_behind_is (sizes_in s) q)

@@ -24,7 +24,7 @@ use Rattle.foyer_device_statistics.specs.declared.state.IoState.{IoState}
 use Rattle.foyer_core_steps.specs.Reclaiming.{Reclaiming, IsReclaimAs, IsStageAs, IsAtRead, IsReread, after_index, index_infos, chosen, chosen_of, hashed_of, verdict_list, verdicts_of}
 use Rattle.foyer_core_steps.proofs.ReclaimLemmas.{listed_more, addresses_are, admitted_is, behind_is, stage_from, stage_read, as_many, copies}
 
--- verdicts, none where there is no list
+-- verdicts, none if there is no list
 abbrev pub bools : Option (List Bool) → List Bool
 bools None = []
 bools (Some vs) = vs
@@ -33,7 +33,7 @@ pub bools_are : {A : Type 0} (v : Option (Vec Bool A)) → bools (verdict_list v
 bools_are None = refl
 bools_are (Some v) = refl
 
--- verdicts are as many as what is listed, and there is a list of them where something is
+-- there are as many verdicts as listed entries, and a list of verdicts exactly if there is one of entries
 abbrev pub FitsList : Option (List EntryInfo) → Option (List Bool) → Type 0
 FitsList None None = Unit {0}
 FitsList (Some infos) (Some vs) = length vs ≡ length infos
@@ -87,7 +87,7 @@ module _ {K V P : Type 0} (m : Meaning K V P) (s : Settings) (sound : AreValid s
         is_forgotten = r.is_forgotten;
       }) after
 
-  -- where it isn't forgotten
+  -- if the reclaim isn't forgotten
   unforgotten_stage : (o : Option ℕ) (es : List HashedEntryAddress) (stage : model_state.Stage) → IsAtRead (sizes_in s) o es stage
       → IsStageAs r.is_forgotten (sizes_in s) o (r.admitted ++ es) stage
   unforgotten_stage o es stage at =

@@ -35,7 +35,7 @@ module _ {K V P A : Type 0} (m : Meaning K V P) (s : Settings) (sound : AreValid
   pub as_many_run : running s.blocks it.reclaims ≡ reclaim_count s.blocks it.place
   as_many_run = running_is s.blocks it.place it.reclaims (λ b. runs_where s b (it.place b) (it.filling b) (reclaim_at core.reclaims b) (it.reclaims b) (stands.reclaims b))
 
-  -- a reclaim may begin where it may in the model
+  -- a reclaim may begin in the model if it may in the core
   pub may_begin : MayReclaim (length core.manager.blocks) core.manager.reclaimers core.manager.clean_threshold (sets_of it) → InTurn (machine m s sound) it model_step.ReclaimBegin
   may_begin may = record {
     wanted = elim sized.wanted [ inl few ↦ inl few | inr waits ↦ inr waits ];

@@ -1,4 +1,4 @@
--- A step that is met, but for its count, is met.
+-- A step that is met except for its count is met.
 use Rattle.std.proofs.Common.{◌≡◌, ℕ, ◌+◌, ◌-◌, ◌^◌, ◌<◌, ◌≤◌, inl, refl, sym, subst, arith}
 use Rattle.foyer_device_page.specs.declared.error.ErrorKind.{ErrorKind}
 use Rattle.foyer_device_page.specs.declared.error.ErrorKind.TheVariants as kind

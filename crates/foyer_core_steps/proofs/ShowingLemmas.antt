@@ -1,4 +1,4 @@
--- Pickers that were lent as a slice, and are those of a list again.
+-- Pickers that were borrowed as a slice, and are those of a list again.
 use Rattle.std.proofs.Common.{◌≡◌, ℕ, ◌<◌, Some, Ok, Err, List, [], ◌∷◌, ◌++◌, length, take, drop, slice_get, slice_index_or, refl, sym, ap, subst, ◌∙◌, arith}
 use Rattle.std.proofs.lemmas.List.{append-nil, at_drop_all, take_all}
 use Rattle.std.proofs.lemmas.Option.{slice_get_read}

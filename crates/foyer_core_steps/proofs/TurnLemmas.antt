@@ -1,4 +1,4 @@
--- Steps that are handed back.
+-- Steps that are returned.
 use Rattle.std.proofs.Common.{◌≡◌, ◌^◌, ◌<◌, ◌-◌, Some, refl, sym, subst, arith}
 use Rattle.foyer_block_index.proofs.Rooms.{kept_itself}
 use Rattle.foyer_device_page.specs.declared.error.ErrorKind.{ErrorKind}
@@ -76,7 +76,7 @@ pub comes_back_late : {K V P A : Type 0} (m : Meaning K V P) (s : Settings) (sou
     → back ≡ given → IsRefinedUncounted m s sound given (reply.NotNow given) new it → IsRefinedUncounted m s sound given (reply.NotNow back) new it
 comes_back_late m s sound given back new it is turned = subst (λ b. IsRefinedUncounted m s sound given (reply.NotNow b) new it) (sym is) turned
 
--- what holds of a step holds of the one that was asked, where it is that one
+-- what holds for a step holds for the step that was asked, if the two are the same
 pub brought : {K V P A : Type 0} (m : Meaning K V P) (s : Settings) (sound : AreValid s) (given is : Step K V P A) (answer : Reply K V P A) (new : Core K V P A) (it : State Content)
     → given ≡ is → IsRefinedUncounted m s sound is answer new it → IsRefinedUncounted m s sound given answer new it
 brought m s sound given is answer new it same turned = subst (λ g. IsRefinedUncounted m s sound g answer new it) (sym same) turned

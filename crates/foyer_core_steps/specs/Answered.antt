@@ -21,7 +21,7 @@ use Rattle.foyer_core_steps.specs.declared.step.Ticket.{Ticket}
 use Rattle.std.specs.declared.vec.Vec.{Vec}
 use Rattle.foyer_core_steps.specs.Unchanged.{IsUnchanged}
 
--- a step that is out of turn or refused is handed back, and nothing changed
+-- a step that is out of turn or refused is returned, and nothing changed
 abbrev pub HandsBack : {K V P A : Type 0} → Step K V P A → Reply K V P A → Core K V P A → Core K V P A → Type 0
 HandsBack given (reply.NotNow back) old new = (back ≡ given) × IsUnchanged old new
 HandsBack given (reply.Refused kind back) old new = (back ≡ given) × IsUnchanged old new
@@ -73,7 +73,7 @@ abbrev pub Returns : {K V P A : Type 0} → Step K V P A → Referred K V P → 
 Returns (step.Enqueue piece size) back = back ≡ piece
 Returns given back = ⊥
 
--- what a reply says, beside that of a step that was handed back
+-- what a reply says, unless it returns the step
 abbrev pub Describes : {K V P A : Type 0} → (List ℕ → Bool) → (List ℕ → Bool) → (K → List ℕ) → (V → List ℕ)
     → Step K V P A → Reply K V P A → Core K V P A → Core K V P A → Type 0
 Describes is_key is_value key_of value_of given (reply.Entry key value age) old new =
@@ -119,7 +119,7 @@ abbrev pub Idling : {K V P A : Type 0} → Step K V P A → Reply K V P A → Co
 Idling given (reply.Answer answer) old = Asks given answer old
 Idling given answer old = DescribesNothing answer
 
--- A reclaim only begins if it may. It begins with the first of the lent pickers' answers that is an evictable block. If no
+-- A reclaim only begins if it may. It begins with the first of the borrowed pickers' answers that is an evictable block. If no
 -- answer is one, it begins with any evictable block. The reply has the answers up to the pick, and the blocks that these
 -- pickers put on probation.
 abbrev pub IsPicked : {K V P A Q : Type 0} → (Q → Info → Option ℕ) → (Q → Info → List ℕ) → List Q → Reply K V P A → Core K V P A → Core K V P A → Type 0
@@ -144,7 +144,7 @@ MayFail (step.FlushWrote flusher outcome) old =
     went_well outcome ≡ true → IsSomeAnd (slice_get old.flushers.items flusher) (MustGrowFor old.index)
 MayFail given old = Unit {0}
 
--- the buffer of what was read, unless the step that is handed back has it
+-- the buffer of what was read, unless the step that is returned has it
 abbrev pub spare_of : {K V P A : Type 0} → Result (Vec ℕ A) Error → Reply K V P A → Option (Vec ℕ A)
 spare_of outcome (reply.NotNow back) = None
 spare_of outcome (reply.Refused kind back) = None

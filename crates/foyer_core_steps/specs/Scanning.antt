@@ -29,7 +29,7 @@ HasJudged may filter io (Ok bytes) (Some r) vs = AreOn may filter io bytes.items
 HasJudged may filter io (Ok bytes) None vs = vs ≡ None
 HasJudged may filter io (Err e) o vs = vs ≡ None
 
--- what a reclaim's read is answered, unless it is handed back, has the verdicts of the filter that was lent
+-- the reply to a reclaim's read has the verdicts of the borrowed filter, unless it returns the read
 abbrev pub IsJudged : {K V P A Q : Type 0} → (Q → IoState → ℕ → ℕ → StorageFilterResult → Type 0) → Option (List Q) → IoState → (block : ℕ) → Result (Vec ℕ A) Error → Reply K V P A → Core K V P A → Type 0
 IsJudged may filter io b came (reply.Scan c offset len verdicts) old = HasJudged may filter io came (reclaim_at old.reclaims b) (verdict_list verdicts)
 IsJudged may filter io b came (reply.Listed verdicts) old = HasJudged may filter io came (reclaim_at old.reclaims b) (verdict_list verdicts)

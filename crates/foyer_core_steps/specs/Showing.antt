@@ -1,4 +1,4 @@
--- What a step shows the pickers that are lent: the blocks that become evictable, and the one that is reclaimed.
+-- What a step shows the pickers that it borrows: the blocks that become evictable, and the one that is reclaimed.
 use Rattle.std.specs.Prelude.{ℕ, List, [], length, Option, option_and_then, slice_get}
 use Rattle.foyer_core_model.specs.Ids.{ids}
 use Rattle.foyer_block_manager.specs.Managed.{Managed}

@@ -1,4 +1,4 @@
--- What a step that is handed back leaves: all is as it was, except for room that was made.
+-- What a step that is returned leaves: all is as it was, except for room that was made.
 use Rattle.std.specs.Prelude.{◌≡◌, map}
 use Rattle.foyer_block_index.specs.Index.{KeepsIndex}
 use Rattle.foyer_core_flusher.specs.Seen.{seen}

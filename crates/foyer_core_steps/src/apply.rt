@@ -23,7 +23,7 @@ use foyer_format_record::serde::{Code, Properties};
 use foyer_policy_filter::StorageFilterCondition;
 use std::alloc::Allocator;
 
-// Whether a step came back, out of turn or refused.
+// Whether the reply returns the step, as out of turn or refused.
 pub(crate) fn is_handed_back<K, V, P, A: Allocator>(reply: &Reply<K, V, P, A>) -> bool
     ensures { MatchBool result (IsHandedBack reply.now) (IsHandedBack reply.now → ⊥) }
 {
@@ -42,8 +42,8 @@ where
     A: Allocator + Clone,
 {
     #[tactic(auto, using(crate::proofs::Describing::issues_counted))]
-    /// Applies one step, at any time. A step that is out of turn or refused changes nothing and is handed back, and
-    /// isn't counted; after 2^64 - 1 steps each one is refused as `SequenceEnd`.
+    /// Applies one step, at any time. A step that is out of turn or refused changes nothing, is returned, and isn't counted. After 2^64 - 1
+    /// steps each one is refused as `SequenceEnd`.
     pub fn apply<E: EvictionPicker, C: StorageFilterCondition>(
         &mut self,
         env: &mut Env<E, C>,

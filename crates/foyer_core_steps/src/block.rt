@@ -1,4 +1,4 @@
-//! Flushers, the blocks that they fill, and the reclaims of these.
+//! The reclaims of blocks, and the flusher of the crate `foyer_core_flusher`.
 
 pub mod reclaimer;
 

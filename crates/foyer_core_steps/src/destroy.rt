@@ -28,9 +28,9 @@ use std::mem::replace;
 pub enum Destroy<A: Allocator> {
     /// None runs.
     Absent,
-    /// It waits until nothing is under way.
+    /// It waits until no flusher has anything queued, received or in a batch, and no reclaim runs.
     Begun,
-    /// The blocks whose clean has yet to come, and the first fault of those that came.
+    /// The blocks whose clean isn't reported yet, and the first fault of the cleans that were reported.
     Cleaning {
         left: IdSet<A>,
         first_fault: Option<ErrorKind>,
@@ -48,7 +48,7 @@ fn fault_kind(outcome: &Result<()>) -> Option<ErrorKind>
     }
 }
 
-// The fault that came first.
+// The fault of before, or else the new one.
 fn first_of(before: Option<ErrorKind>, fault: Option<ErrorKind>) -> Option<ErrorKind>
     ensures { result ≡ first_of before fault }
 {
@@ -59,7 +59,7 @@ fn first_of(before: Option<ErrorKind>, fault: Option<ErrorKind>) -> Option<Error
 }
 
 impl<A: Allocator> Destroy<A> {
-    // Whether the block's clean has yet to come.
+    // Whether the block's clean isn't reported yet.
     fn awaits(&self, block: BlockId) -> bool
         ensures { result ≡ awaits block self.now }
     {
@@ -72,7 +72,7 @@ impl<A: Allocator> Destroy<A> {
         }
     }
 
-    // The block's clean has come. After the last one the destroy is over, and its first fault is given.
+    // Notes that the block's clean was reported. After the last one the destroy is over, and its first fault is given.
     fn note_clean(&mut self, block: BlockId, fault: Option<ErrorKind>) -> Option<Option<ErrorKind>>
         requires { awaits block self.old ≡ true }
         ensures { MatchOption result (HasCleaned block fault self.old self.new)
@@ -159,7 +159,7 @@ impl<K, V, P, A: Allocator + Clone> Core<K, V, P, A> {
         Reply::Cleared
     }
 
-    // A clean that failed counts too. It doesn't allocate.
+    // A failed clean is reported too, and counts. The call doesn't allocate.
     pub(crate) fn destroy_cleaned(
         &mut self,
         block: BlockId,

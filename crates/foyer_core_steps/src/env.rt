@@ -1,4 +1,4 @@
-//! What a core's callers lend it.
+//! What callers pass to a core by `&mut`.
 ghost use Rattle.std.specs.Prelude.{◌≡◌, [], ◌∷◌, None, Some, OnOk, IfOk, IsOkUnless};
 ghost use Rattle.foyer_device_page.specs.declared.error.Error.TheVariants.{Memory};
 ghost use Rattle.foyer_core_steps.specs.Lent.{IsNoIo, generator_of};
@@ -18,18 +18,18 @@ use std::alloc::Global;
 use std::mem;
 use std::time::Duration;
 
-/// What callers lend the core at its opening and at each step. The pickers are asked in their order what is reclaimed next.
-/// The generator chooses if none of them picks. The filter says which records of a reclaimed block are written again. Pickers
-/// and conditions are those of this project, or the caller's own types. Boxed ones are among these (`foyer_block_manager`'s
-/// `AnyPicker`, `foyer_policy_filter`'s `AnyCondition`).
+/// What callers pass to the core, by `&mut`, at its opening and at each step. The pickers are asked, in their order, which block is
+/// reclaimed next. If none of them picks an evictable block, the generator chooses. The filter says which records of a reclaimed block are
+/// queued to be written again. Pickers and conditions are those of this project, or the caller's own types, also boxed ones
+/// (`foyer_block_manager`'s `AnyPicker`, `foyer_policy_filter`'s `AnyCondition`).
 pub struct Env<E: EvictionPicker = BuiltInPicker, C: StorageFilterCondition = BuiltInCondition> {
     pub(crate) pickers: Vec<E>,
     // The ids that pickers learn of, or put on probation.
     pub(crate) own: Vec<BlockId>,
     pub(crate) generator: Pcg32,
-    // What admits the records of a reclaimed block for reinsertion; without one none is.
+    // Admits the records of a reclaimed block for reinsertion. Without it, no record is admitted.
     pub(crate) reinsertion: Option<StorageFilter<C, Global>>,
-    // What the device did and has callers wait for, as the filter is shown it.
+    // What the device did, and how long it makes callers wait, as it is passed to the filter.
     pub(crate) io: IoState,
 }
 
@@ -46,8 +46,7 @@ impl<E: EvictionPicker, C: StorageFilterCondition> Drop for Env<E, C> {
     }
 }
 
-/// Gives the state of a device that did nothing and for which nothing is to be waited for. A filter is shown this state if
-/// nobody showed it another.
+/// Gives the state of a device that did nothing and makes no caller wait. A filter is passed this state if nobody set another.
 pub fn no_io() -> IoState
     ensures { IsNoIo result }
 {
@@ -62,8 +61,9 @@ pub fn no_io() -> IoState
 }
 
 impl Env<BuiltInPicker, BuiltInCondition> {
-    /// Lends the pickers that there are if none are given. The first picks by invalid bytes, from 8/10 of a block on. The
-    /// second picks by age, with a tenth of the blocks clean or on probation. Error: `Memory` alone.
+    /// Gives an `Env` with the default pickers, a generator with this seed, and no filter. The first picker picks by invalid bytes, from
+    /// 8/10 of a block on. The second picks by age, and puts the oldest blocks on probation while fewer than a tenth of all are clean.
+    /// Errors: `Memory` alone.
     pub fn with_default_pickers(alloc: Global, seed: u64) -> Result<Env>
         ensures pickers { IfOk result (λ env. env.pickers.items
             ≡ picker.InvalidRatio (record { num = 8; den = 10; block_size = 0 })
@@ -81,7 +81,7 @@ impl Env<BuiltInPicker, BuiltInCondition> {
 }
 
 impl<E: EvictionPicker> Env<E, BuiltInCondition> {
-    /// These pickers, in this order, and a generator that begins with this seed; no record is written again. It doesn't
+    /// Gives an `Env` with these pickers, in this order, a generator with this seed, and no filter: no record is written again. It doesn't
     /// allocate.
     pub fn new(alloc: Global, pickers: Vec<E>, seed: u64) -> Env<E, BuiltInCondition>
         ensures pickers { result.pickers ≡ pickers }
@@ -101,8 +101,8 @@ impl<E: EvictionPicker> Env<E, BuiltInCondition> {
 }
 
 impl<E: EvictionPicker, C: StorageFilterCondition> Env<E, C> {
-    /// The filter that is asked of each listed entry of a reclaimed block, by its hash and its record's length in bytes: what
-    /// it admits is written again, and keeps its sequence.
+    /// Sets the filter that is asked about each listed entry of a reclaimed block, with its hash and its record's length in bytes. A record
+    /// that it admits is read, and queued to be written again with its sequence.
     pub fn with_reinsertion<F: StorageFilterCondition>(
         self,
         filter: StorageFilter<F, Global>,
@@ -128,7 +128,7 @@ impl<E: EvictionPicker, C: StorageFilterCondition> Env<E, C> {
         }
     }
 
-    /// This filter, or none, from now on; the one before comes back.
+    /// Sets this filter, or none, from now on, and gives the one before.
     pub fn replace_reinsertion(
         &mut self,
         filter: Option<StorageFilter<C, Global>>,
@@ -139,14 +139,14 @@ impl<E: EvictionPicker, C: StorageFilterCondition> Env<E, C> {
         mem::replace(&mut self.reinsertion, filter)
     }
 
-    /// What the device did and has callers wait for, as the filter is shown it from now on.
+    /// Sets what the device did, and how long it makes callers wait. From now on the filter is passed this.
     pub fn set_io(&mut self, io: IoState)
         ensures { self.new ≡ record self.old { io = io } }
     {
         self.io = io;
     }
 
-    // Its own list has the ids of so many blocks, in order.
+    // Puts the ids of this many blocks into the list `own`, in order.
     fn list_blocks(&mut self, blocks: u32) -> Result<()>
         ensures ids { OnOk result (self.new.own.items ≡ ids blocks) }
         ensures pickers { self.new.pickers ≡ self.old.pickers }
@@ -160,7 +160,7 @@ impl<E: EvictionPicker, C: StorageFilterCondition> Env<E, C> {
         Ok(())
     }
 
-    // Describes the pickers the blocks of its own list.
+    // Calls `init` of each picker with the blocks of the list `own`.
     fn describe(&mut self, block_size: usize) -> Result<()>
         ensures begun { OnOk result (AreChanged (λ p q. E.begins p self.old.own.items block_size q)
             self.old.pickers.items self.new.pickers.items) }
@@ -172,7 +172,8 @@ impl<E: EvictionPicker, C: StorageFilterCondition> Env<E, C> {
         init_all(&mut self.pickers, alloc, &self.own, block_size)
     }
 
-    // Describes the pickers so many blocks, before all else; its own list has their ids then, in order.
+    // Puts the ids of this many blocks into the list `own`, in order, and calls `init` of each picker with them. This precedes all other
+    // calls of the pickers.
     pub(crate) fn init(&mut self, blocks: u32, block_size: usize) -> Result<()>
         ensures ids { OnOk result (self.new.own.items ≡ ids blocks) }
         ensures begun { OnOk result (AreChanged (λ p q. E.begins p (ids blocks) block_size q)

@@ -24,9 +24,8 @@ use foyer_policy_filter::StorageFilterCondition;
 use std::alloc::Allocator;
 
 impl<K, V, P, A: Allocator> Core<K, V, P, A> {
-    /// Whether less than half of a flusher's buffer is left. Whoever drives the core begins a flush then, so that no
-    /// piece whose record takes at most half of a buffer is handed back for want of room. A flusher that isn't there
-    /// wants none.
+    /// Whether less than half of a flusher's buffer is left. Whoever drives the core begins a flush then. So no piece whose record takes at
+    /// most half of a buffer is returned for want of room in the buffer. A flusher that isn't there wants none.
     pub fn wants_flush(&self, flusher: u32) -> bool
         ensures there { (found : Flusher K V P A) → flusher < length self.now.flushers.items
             → found ≡ slice_index_or self.now.flushers.items flusher found
@@ -39,8 +38,8 @@ impl<K, V, P, A: Allocator> Core<K, V, P, A> {
         self.flushers[flusher as usize].wants_flush()
     }
 
-    /// How many records a flusher received since the batch before, and how many bytes of its buffer are left for more, each
-    /// with its padding; nothing at one that isn't there.
+    /// Gives how many records a flusher received since the batch before, and how many bytes of its buffer are left. A record takes whole
+    /// pages of it. Gives `(0, 0)` for a flusher that isn't there.
     pub fn received(&self, flusher: u32) -> (usize, usize)
         ensures there { (found : Flusher K V P A) → flusher < length self.now.flushers.items
             → found ≡ slice_index_or self.now.flushers.items flusher found
@@ -54,7 +53,7 @@ impl<K, V, P, A: Allocator> Core<K, V, P, A> {
         (found.sources.len(), found.filled.left())
     }
 
-    /// Whether nothing is queued, received or in a batch at a flusher, as at one that isn't there.
+    /// Whether nothing is queued, received or in a batch at a flusher. True for a flusher that isn't there.
     pub fn is_idle(&self, flusher: u32) -> bool
         ensures there { (found : Flusher K V P A) → flusher < length self.now.flushers.items
             → found ≡ slice_index_or self.now.flushers.items flusher found → result ≡ is_still found }

@@ -1,6 +1,6 @@
 //! What holds of every run of a core: the laws of the model, for every code and all sizes that go together.
 //!
-//! `Core::apply` says which step of this machine each call is, and `Core::open` where it begins.
+//! The contract of `Core::apply` says which step of the model each call is, and that of `Core::open` in which state the model begins.
 ghost use Rattle.std.specs.Prelude.{◌≡◌, ℕ, Bool, List, []};
 ghost use Rattle.foyer_core_steps.specs.Opened.{IsOpened};
 ghost use Rattle.foyer_core_steps.specs.StateOf.{IsStateOf};
@@ -19,8 +19,8 @@ pub use foyer_core_flusher::core_laws::laws::{
 };
 pub use foyer_core_flusher::core_laws::restart::{restart, restart_idle, restart_keeps_newest};
 
-/// An opened core stands for the state that has what was found, with some marks, and the world with that state, over any bytes, is one that
-/// the laws begin with.
+/// Take what an opening found, with any marks of deletes. The core opened with it stands for the state of the model that has it. Over any
+/// bytes, the laws begin with a world of that state.
 pub fn opening_begins<K, V, P, A>()
     ensures stands { (m : Meaning K V P) (s : Settings) (sound : AreValid s) (marks : List (ℕ × ℕ)) (o : Opened) (core : Core K V P A)
         → IsOpening (sizes_in s) s.blocks marks o → IsOpened s o core

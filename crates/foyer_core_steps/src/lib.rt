@@ -1,8 +1,7 @@
-//! The core of the engine: one value that steps change, and nothing else.
+//! The core of the engine: one value, which changes by steps.
 //!
-//! A step is applied by `Core::apply`; reads and writes of the device lie between the steps. A reply issues the access
-//! that is due, and a later step brings its result. So the core can be driven by one loop, by worker threads, or by a
-//! list of moves (`foyer_core_run::moves::run`), and what it does is the same.
+//! `Core::apply` applies a step. Except at its opening, the core does no I/O: a reply asks for an access of the device, and a later step
+//! reports its result. So the core can be driven by one loop, by worker threads, or by a list of moves (`foyer_core_run::moves::run`).
 #![tactic(auto)]
 
 pub mod apply;

@@ -73,8 +73,8 @@ fn judge<K: Code<A> + Drop, V: Code<A> + Drop, A: Allocator + Clone>(
     }
 }
 
-/// What was read for a ticket, and what it is as a record. It is judged before the core is asked, so that no other thread waits
-/// for that.
+/// What was read for a ticket, and what it is as a record. The bytes are decoded outside the core, so that no other thread that shares the
+/// core waits for that.
 #[derive(Drop)]
 pub struct Judged<K, V, A: Allocator> {
     ticket: Ticket,
@@ -111,14 +111,14 @@ where
         self.ticket
     }
 
-    /// What was read, or a fault of the disk.
+    /// Gives the bytes that were read, or the error of the read.
     pub fn outcome(&self) -> &Result<Vec<u8, A>>
         ensures { result.now ≡ self.now.outcome }
     {
         &self.outcome
     }
 
-    /// The step that brings it.
+    /// Gives the `LoadEnd` with the ticket and what was read.
     pub fn into_step<P>(self) -> Step<K, V, P, A>
         ensures { result ≡ step.LoadEnd self.ticket self.outcome }
     {
@@ -172,7 +172,7 @@ impl<K, V, P, A: Allocator + Clone> Core<K, V, P, A> {
         Reply::Miss
     }
 
-    // The block may have been refilled meanwhile: its filling is compared before it counts what was read.
+    // The block may have been refilled meanwhile, so its filling is compared before what was read is used.
     fn end_judged(&mut self, judged: Judged<K, V, A>) -> (Reply<K, V, P, A>, Option<Vec<u8, A>>)
     where
         K: Code<A> + Drop,
@@ -259,9 +259,9 @@ where
     A: Allocator + Clone,
 {
     #[tactic(auto, using(crate::proofs::Describing::issues_counted, crate::proofs::Describing::issues_pair))]
-    /// Applies the `LoadEnd` of what was judged as `apply` does. Gives the buffer of the read back beside the reply, for the
-    /// next read: unchanged, with all that is in it. Gives no buffer if the read failed, or if the step that is handed back has
-    /// it.
+    /// Applies the `LoadEnd` of what was judged, as `apply` does. Requires that `Judged::of` made `judged`. Beside the reply, gives the
+    /// buffer of the read unchanged, for the next read. Gives no buffer if the read failed, or if the reply returns the step, which then
+    /// has the buffer.
     pub fn apply_judged<E: EvictionPicker, C: StorageFilterCondition>(
         &mut self,
         _env: &mut Env<E, C>,

@@ -52,7 +52,7 @@ pub fn runner_of(settings: &Settings, mode: RecoverMode) -> Result<RecoverRunner
     })
 }
 
-// So many flushers that have nothing.
+// Gives as many flushers as the settings say, each with nothing.
 fn idle_flushers<K: Drop, V: Drop, P: Drop, A: Allocator + Clone>(
     alloc: &A,
     settings: &Settings,
@@ -69,7 +69,7 @@ fn idle_flushers<K: Drop, V: Drop, P: Drop, A: Allocator + Clone>(
     Ok(flushers)
 }
 
-// The manager of blocks that were never handed out: these are clean, in this order, all others are evictable, and the
+// Gives a manager of blocks that were never handed out. The blocks of `clean` are clean, in this order. All others are evictable, and the
 // pickers know them.
 fn place_blocks<A: Allocator + Clone, E: EvictionPicker, C: StorageFilterCondition>(
     alloc: &A,
@@ -105,15 +105,17 @@ fn place_blocks<A: Allocator + Clone, E: EvictionPicker, C: StorageFilterConditi
 impl<K: Drop, V: Drop, P: Drop, A: Allocator + Clone> Core<K, V, P, A> {
     ghost use Rattle.foyer_block_recover.specs.declared.block.recover.RecoverMode.TheVariants as recover_mode;
 
-    /// Opens a core with what is found in the disk's blocks and with the marks of deletes. The core has the newest entry of each
-    /// hash, unless a mark of the hash is as new. Its next sequence is the one behind the greatest of entries and marks. Its
-    /// clean blocks are those that keep nothing, in the order of their ids. In `None` no block is read, and all blocks are clean.
-    /// Marks count in every mode. The pickers learn of the blocks. Nothing is written. A read of a range that surely lies in the
-    /// disk failed only if the device failed. If the disk's count of faults stayed, each such place of the blocks was read.
+    /// Opens a core with what is found in the disk's blocks and with the marks of deletes. For each hash, the core has the newest entry
+    /// found, unless a mark of the hash is as new or newer. Its next sequence is one more than the greatest of an entry or a mark. Its
+    /// clean blocks are those that keep nothing, in the order of their ids. In `None` no block is read, and all blocks are clean. Marks
+    /// count in every mode. The pickers learn of the blocks. Nothing is written.
     ///
-    /// Errors: `Config` if the settings don't go together, before anything is read; `Recover` if a read failed in `Strict`;
-    /// `SequenceEnd` if what was found, or a mark, has the last sequence; `Memory` at any time. No other bytes make the opening
-    /// fail.
+    /// A read of an index doesn't fail if the disk surely has its range. It doesn't fail either if the range surely lies in the disk, and
+    /// the disk's count of faults doesn't change. The count must be below 2^64 - 1.
+    ///
+    /// Errors: `Config` if the settings don't go together, before anything is read; `Recover` if a read failed in `Strict`; `SequenceEnd`
+    /// if what was found, or a mark, has the last sequence; `Memory` at any time. No other bytes make the opening fail. After an error the
+    /// pickers may know the blocks.
     pub fn open<D: Disk, E: EvictionPicker, C: StorageFilterCondition>(
         alloc: A,
         env: &mut Env<E, C>,
@@ -150,8 +152,8 @@ impl<K: Drop, V: Drop, P: Drop, A: Allocator + Clone> Core<K, V, P, A> {
         Core::begin(alloc, env, settings, recovered)
     }
 
-    /// The same with what the workers of a recovery listed, as `RecoverRunner::run_with` has it: each block of which a listing came
-    /// isn't read again. Whatever bytes the listings list, together with those that the disk has in the other blocks: the core is
+    /// The same as `open`, with what the workers of a recovery listed, as `RecoverRunner::run_with` has it. A block that has a listing of
+    /// these sizes isn't read again. Take any bytes that the listings list, together with the disk's bytes of the other blocks: the core is
     /// opened with these bytes.
     pub fn open_with<D: Disk, E: EvictionPicker, C: StorageFilterCondition>(
         alloc: A,

@@ -36,7 +36,7 @@ fn is_young<P: Properties>(properties: &P) -> bool
 }
 
 impl<K, V, P, A: Allocator + Clone> Core<K, V, P, A> {
-    // The flusher that all submissions of a hash pass.
+    // The flusher at which the pieces and the marks of a hash are queued.
     pub(crate) fn flusher_of(&self, hash: u64) -> usize
         ensures number { result ≡ hash % vec_len self.now.flushers }
         ensures within { result < vec_len self.now.flushers }

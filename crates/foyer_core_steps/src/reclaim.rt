@@ -48,7 +48,7 @@ fn record_pages(address: &EntryAddress) -> usize
 }
 
 impl<K, V, P, A: Allocator + Clone> Core<K, V, P, A> {
-    // The pickers that are lent choose the block, or the generator does.
+    // Begins the reclaim of a block. The pickers of `env` choose the block, or the generator does.
     pub(crate) fn reclaim_begin<E: EvictionPicker, C: StorageFilterCondition>(
         &mut self,
         env: &mut Env<E, C>,
@@ -121,7 +121,7 @@ impl<K, V, P, A: Allocator + Clone> Core<K, V, P, A> {
         }
     }
 
-    // The flusher whose turn it is to reinsert: for the n-th record of a reclaim, from 0, that of n.
+    // The flusher that reinserts next. Record n of a reclaim, counted from 0, goes to flusher n modulo the number of flushers.
     fn turn_of(&self, block: BlockId) -> usize
         ensures number { IfSome (reclaim_at self.now.reclaims block) (λ r. result ≡ requeue_count r % vec_len self.now.flushers) }
         ensures within { result < vec_len self.now.flushers }

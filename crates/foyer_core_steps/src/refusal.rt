@@ -1,4 +1,4 @@
-//! What a refused step is answered as.
+//! The error for the kind of a refusal.
 ghost use Rattle.std.specs.Prelude.{◌≡◌};
 ghost use Rattle.foyer_core_steps.specs.Refusals.{error_of};
 

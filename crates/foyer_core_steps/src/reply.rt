@@ -14,7 +14,8 @@ use std::alloc::Allocator;
 pub enum Reply<K, V, P, A: Allocator> {
     /// The step is out of turn: nothing changed.
     NotNow(Step<K, V, P, A>),
-    /// The step is refused: nothing changed.
+    /// The step is refused: nothing changed. The kind is `Closed`, `SequenceEnd` or `Memory`; of a `LoadEnd` it may also be `Io`, `Parse`
+    /// or `Unsupported`.
     Refused(ErrorKind, Step<K, V, P, A>),
     /// The piece isn't taken: it is young.
     Ignored(PieceRef<K, V, P, A>),
@@ -26,72 +27,76 @@ pub enum Reply<K, V, P, A: Allocator> {
     Deleted(Sequence),
     /// A wait is queued, the log's outcome is noted, a clean is noted, or the core is closed.
     Done,
-    /// Whether the hash is indexed, or whether no reclaim runs.
+    /// Whether the index has an address for the hash (a mark doesn't count), or whether no reclaim runs.
     Answer(bool),
-    /// There is no such entry.
+    /// There is no such entry: the index has no address for the hash, the address is of an earlier filling, or the bytes read aren't the
+    /// record.
     Miss,
-    /// The device is throttled.
+    /// The index has an address for the hash, but the caller said that the device is throttled.
     Throttled,
-    /// Read this, and bring it by `LoadEnd`.
+    /// Asks the caller to read what the ticket says, and to report the result by `LoadEnd`.
     Read(Ticket),
-    /// The entry. Its age is old if its block is on probation.
+    /// The entry. Its age is `Old` if its block is on probation, else `Young`.
     Entry {
         key: K,
         value: V,
         age: Age,
     },
-    /// Nothing is queued.
+    /// Nothing is queued at this flusher.
     Empty,
-    /// The front of the queue was taken. A piece that doesn't fit is handed back, and its hash is deleted under its sequence.
+    /// The front of the queue was taken. A piece that doesn't fit, or whose code fails, is returned, and its hash is deleted under its
+    /// sequence.
     Received(Option<PieceRef<K, V, P, A>>),
-    /// A batch of so many blocks began; these are its marks, in order.
+    /// A batch of this many blocks began, with these marks, in order.
     Began {
         blocks: usize,
         marks: Vec<Tombstone, A>,
     },
-    /// Write these to this block, one after the other, and bring each result by `FlushWrote`.
+    /// Asks the caller to do these writes of the block in order, and to report each by `FlushWrote`, up to the first that fails.
     Write {
         block: BlockId,
         writes: Vec<Write<A>, A>,
     },
-    /// No block is clean. The flusher waits for one.
+    /// No block can be handed out: none is clean, or a destroy is cleaning. The flusher waits for one.
     NoBlock,
     /// The write is noted, and the block has another.
     Next,
-    /// The block's records are indexed, so many.
+    /// The block is written, and its records entered the index: each piece's record unless the index had something newer, each reinserted
+    /// record if the index still had its old address. The number counts all pieces' records and these reinserted ones.
     Committed(usize),
-    /// The write failed. Nothing of this or a later block of the batch is indexed.
+    /// The write failed, or the index got no memory for the block's records. Nothing of this or a later block of the batch is indexed.
     Failed,
     /// The batch ended: its pieces in order, and the waits that it answers.
     Ended {
         pieces: Vec<PieceRef<K, V, P, A>, A>,
         waits: Vec<u64, A>,
     },
-    /// The reclaim of this block began: read its first index, from 0 on, and bring it by `ReclaimRead`. What the pickers
-    /// answered, in their order and up to the first pick, and what they put on probation.
+    /// The reclaim of this block began. The caller is to read the block's index at offset 0, and to report it by `ReclaimRead`. `answers`
+    /// has the pickers' answers in their order, up to the first pick. `probation` has the blocks that these pickers put on probation.
     Picked {
         block: BlockId,
         answers: Vec<Option<BlockId>, A>,
         probation: Vec<BlockId, A>,
     },
-    /// Read this part of a block that is reclaimed, and bring it by `ReclaimRead`. Whether each entry of the index that
-    /// was listed is admitted for reinsertion.
+    /// Asks the caller to read this part of a block that is reclaimed, and to report it by `ReclaimRead`. After an index, `verdicts` says
+    /// for each of its entries whether it is admitted for reinsertion.
     Scan {
         block: BlockId,
         offset: usize,
         len: usize,
         verdicts: Option<Vec<bool, A>>,
     },
-    /// A reclaimed block's entries are listed. The verdicts are `None` if what was read last is no index, or wasn't read.
+    /// The listing of a reclaimed block has ended. The verdicts are `None` if a record was read last, if the read failed, or if the bytes
+    /// are no valid index.
     Listed {
         verdicts: Option<Vec<bool, A>>,
     },
-    /// Clean this block, and bring the result.
+    /// Asks the caller to clean this block, and to report the result by `ReclaimCleaned`.
     Clean(BlockId),
     /// A destroy began under this sequence.
     Destroying(Sequence),
-    /// The index is clear. Clean every block, and bring each result.
+    /// The index is clear. The caller is to clean every block, and to report each result by `DestroyCleaned`.
     Cleared,
-    /// The last block's clean came; the kind of the first fault, if a clean failed: `Io` or `Memory`.
+    /// The clean of the last block was reported. If a clean failed, this is the kind of the first fault: `Io` or `Memory`.
     Destroyed(Option<ErrorKind>),
 }

@@ -1,4 +1,4 @@
-//! What a core finds that is opened on the bytes that a run of one left.
+//! What a core has that is opened on the bytes which a run of a core left.
 ghost use Rattle.std.specs.Prelude.{◌≡◌, ◌⊎◌, ℕ, Bool, List, Some};
 ghost use Rattle.foyer_io_disk.specs.Disk.{SurelyCame};
 ghost use Rattle.foyer_core_steps.specs.Reopened.{IsReopened, HasAgain, HasNewer, BeginsWithNewest};
@@ -14,13 +14,17 @@ ghost use Rattle.foyer_core_flusher.specs.Settings.{Settings};
 
 use foyer_io_disk::disk::Disk;
 
-/// About a core that `Core::open` gave on the bytes that a run of a core left at a stop. Its index has each address that
-/// the run's index had, or a newer record of its hash, unless the block of the address was being written. If no flush was
-/// under way, its index has each of these addresses. What it has again is what was newest at the stop.
+/// About a core that `Core::open` gave on the bytes that a run of a core left at a stop. It has the same sizes, and was opened without
+/// marks. The disk's bytes are known. The run began empty, no batch and no read of a reclaim failed, and nothing was reinserted. Bytes at a
+/// scanned place that pass as an index are one that the run wrote, or began to write, there.
 ///
-/// This holds if the opening is strict, or if no read of an index failed. No such read failed if the disk surely has each
-/// index. None failed either if each index surely lies in the disk and the disk counts as many faults after the opening as
-/// before.
+/// Take an address that the run's index had. The new core's index has it, or a newer record of its hash, unless the address's block was
+/// being written. If no flusher was writing a block, the new index has it. If the new index has it, what is newest of its hash is what was
+/// newest at the stop.
+///
+/// The mode is `Strict`, or it is `Quiet` and no read of an index could fail. None could if the disk surely has each place at which an
+/// index fits. None could either if each such place surely lies in the disk, and the disk's count of faults didn't change. The count must
+/// be below 2^64 - 1.
 pub fn reopening_finds<K, V, P, A, D: Disk>()
     ensures again { (is_key is_value : List ℕ → Bool) (s : Settings) (sound : AreValid s) (w : World Content) (disk after : D)
         (mode : RecoverMode) (core : Core K V P A) (h : ℕ) (a : Address)

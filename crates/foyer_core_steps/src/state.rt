@@ -16,7 +16,7 @@ pub struct Core<K, V, P, A: Allocator> {
     pub(crate) index: Indexer<A>,
     /// The sequence that is drawn next.
     pub(crate) next: u64,
-    /// How many steps were applied, those handed back aside.
+    /// How many steps were applied. A returned step doesn't count.
     pub(crate) steps: u64,
     pub(crate) closed: bool,
     /// The sizes of all queued pieces together, in bytes.
@@ -52,7 +52,7 @@ impl<K: Drop, V: Drop, P: Drop, A: Allocator> Drop for Core<K, V, P, A> {
 }
 
 impl<K, V, P, A: Allocator> Core<K, V, P, A> {
-    /// The sizes that it was opened with.
+    /// Gives the settings that the core was opened with.
     pub fn settings(&self) -> Settings
         ensures { result ≡ self.now.settings }
     {

@@ -9,12 +9,12 @@ use foyer_format_record::block::buffer::PAGE;
 use foyer_policy_piece::keeper::PieceRef;
 use std::alloc::Allocator;
 
-/// What a load reads: `page_up(address.len)` bytes at its address. The entry is judged by the first `address.len`.
+/// What a load reads: `page_up(address.len)` bytes at its address. The record is in the first `address.len` of them.
 #[derive(Clone, Copy, Debug, PartialEq, Eq)]
 pub struct Ticket {
     /// The hash that was looked up.
     pub hash: u64,
-    /// Where the index had it.
+    /// Where the index had the record of the hash.
     pub address: EntryAddress,
 }
 
@@ -31,8 +31,8 @@ impl Ticket {
 
 /// One event of the engine.
 ///
-/// A step that brings the result of an access says `Err` for a fault of the device, whatever the error is. Flushers
-/// are counted from 0. `Core::apply` hands back a step that is out of turn or refused.
+/// A step that reports an access has `Err` if the access failed. Which error it is matters only in a `DestroyCleaned`: `Memory` or another.
+/// Flushers are counted from 0. `Core::apply` returns a step that is out of turn or refused.
 #[derive(Drop)]
 pub enum Step<K, V, P, A: Allocator> {
     /// Queues a piece; `size` is its estimated size in bytes.
@@ -44,12 +44,12 @@ pub enum Step<K, V, P, A: Allocator> {
     Delete {
         hash: u64,
     },
-    /// Queues a wait, which is answered when all that was queued before it at this flusher was flushed.
+    /// Queues a wait. A later `Ended` answers it, once all that was queued before it at this flusher is written or given up.
     Wait {
         flusher: u32,
         id: u64,
     },
-    /// Asks whether a hash is indexed.
+    /// Asks whether the index has an address for a hash. A mark doesn't count.
     MayContains {
         hash: u64,
     },
@@ -58,7 +58,7 @@ pub enum Step<K, V, P, A: Allocator> {
         hash: u64,
         throttled: bool,
     },
-    /// Brings the bytes that a ticket asked for.
+    /// Reports the read of a ticket.
     LoadEnd {
         ticket: Ticket,
         result: Result<Vec<u8, A>>,
@@ -75,32 +75,32 @@ pub enum Step<K, V, P, A: Allocator> {
     FlushBlock {
         flusher: u32,
     },
-    /// Brings the result of the next write that `FlushBlock` issued.
+    /// Reports the result of the next write that the reply to `FlushBlock` issued.
     FlushWrote {
         flusher: u32,
         result: Result<()>,
     },
-    /// Brings the outcome of writing the batch's marks to the tombstone log, once for each batch. Out of turn without one.
+    /// Reports whether the tombstone log took the batch's marks, once for each batch. Out of turn if there is no such log.
     LogWrote {
         flusher: u32,
         result: Result<()>,
     },
-    /// Ends the batch. If there is a tombstone log, this comes behind the log's outcome.
+    /// Ends the batch, once each of its blocks is written or the batch has failed. If there is a tombstone log, `LogWrote` is needed first.
     FlushEnd {
         flusher: u32,
     },
     /// Begins to reclaim a block.
     ReclaimBegin,
-    /// Brings what a reclaim read.
+    /// Reports what a reclaim read.
     ReclaimRead {
         block: BlockId,
         result: Result<Vec<u8, A>>,
     },
-    /// Forgets what a reclaimed block holds.
+    /// Removes from the index what was listed of a reclaimed block, except what was queued for reinsertion.
     ReclaimForget {
         block: BlockId,
     },
-    /// Brings the result of a reclaimed block's clean.
+    /// Reports the result of a reclaimed block's clean.
     ReclaimCleaned {
         block: BlockId,
         result: Result<()>,
@@ -109,13 +109,13 @@ pub enum Step<K, V, P, A: Allocator> {
     ReclaimIdle,
     /// Begins to destroy all entries.
     DestroyBegin,
-    /// Clears the index, once nothing is under way.
+    /// Clears the index, once no flusher has anything queued, received or in a batch, and no reclaim runs.
     DestroyClear,
-    /// Brings the result of a block's clean.
+    /// Reports the result of a block's clean to a destroy.
     DestroyCleaned {
         block: BlockId,
         result: Result<()>,
     },
-    /// Ends enqueues, deletes and destroys.
+    /// Closes the core: from now on it refuses `Enqueue`, `Delete` and `DestroyBegin`. A destroy that has begun may end.
     Close,
 }

@@ -237,7 +237,7 @@ module _ {C : Type 0} (rules : Rules C) (Splits : Splitting C) (w : World C) (ba
       (λ k _. refl) q
   finishes_line f batch reply done new is ok = absurd ok
 
-  -- the front of a queue is taken, or handed back
+  -- the front of a queue is taken, or returned
   takes_line : (f : ℕ) (queue : List (Submission C)) (reply : Reply C) (done new : State C) → (w.core.flushers f).queue ≡ queue → TakesFront rules w.core f queue reply done
       → LineGoes rules w (Applies (Receive f) reply new) q Old (line_at (back_after w (Applies (Receive f) reply new) back) done.flushers q)
   takes_line f [] Empty done new is ok = inl (stays rules Splits w back q done w.core ok refl)

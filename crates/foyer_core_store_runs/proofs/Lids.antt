@@ -155,7 +155,7 @@ module _ {C : Type 0} (rules : Rules C) (Splits : Splitting C) (is_value : C →
   abbrev Hidden : World C → Type 0
   Hidden w = IsAbove h u w.history ⊎ ((newest h w.history ≡ None) × AllKnown (at_least h u) w)
 
-  -- what is hidden stays so where the history goes on
+  -- what is hidden stays hidden if the history continues
   goes_on : (w v : World C) → (IsAbove h u w.history → IsAbove h u v.history) → (AllKnown (at_least h u) w → IsAboveAny h u w.history → IsAboveAny h u v.history) → (AllKnown (at_least h u) w → AllKnown (at_least h u) v) → Hidden w → Hidden v
   goes_on w v stays any tracks hidden =
       elim hidden [
@@ -185,7 +185,7 @@ module _ {C : Type 0} (rules : Rules C) (Splits : Splitting C) (is_value : C →
   enqueues_hidden w k n age c (Queued s) new done drawn ok tracks hidden = goes_on w (after rules w (Applies (Enqueue k n age c) (Queued s) new)) (λ above. above) (λ all any. any) tracks hidden
   enqueues_hidden w k n age c reply new done drawn ok tracks hidden = absurd ok
 
-  -- a piece that is handed back is deleted under its own sequence
+  -- a piece that is returned is deleted under its own sequence
   takes_hidden : (w : World C) (f : ℕ) (queue : List (Submission C)) (reply : Reply C) (new done : State C) → (w.core.flushers f).queue ≡ queue → TakesFront rules w.core f queue reply done
       → (AllKnown (at_least h u) w → AllKnown (at_least h u) (after rules w (Applies (Receive f) reply new))) → Hidden w → Hidden (after rules w (Applies (Receive f) reply new))
   takes_hidden w f [] Empty new done is ok tracks hidden = goes_on w (after rules w (Applies (Receive f) Empty new)) (λ above. above) (λ all any. any) tracks hidden

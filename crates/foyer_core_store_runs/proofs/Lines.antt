@@ -1,4 +1,4 @@
--- Lists of pieces that are given back in order, but for those that no longer matter.
+-- Lists of pieces that are returned in order, except those that no longer matter.
 use Rattle.std.proofs.Common.{◌≡◌, ℕ, ◌<◌, List, [], ◌∷◌, ◌++◌, ◌⊎◌, inl, inr, sym, subst}
 use Rattle.foyer_format_layout.specs.Each.{Each}
 use Rattle.foyer_format_layout.proofs.EachLaws.{each_back, each_join, each_front}

@@ -7,7 +7,8 @@ ghost use Rattle.foyer_core_model.specs.Position.{Position, BlockLayout};
 ghost use Rattle.foyer_core_model.specs.Rules.{Rules};
 ghost use Rattle.foyer_core_store_runs.specs.StoreLaw.{QueuedAreFound};
 
-/// While a piece of a key is queued and not released, a load answers it, a newer piece of the key, or no older entry.
+/// Suppose that a piece of a key is queued and not released. If the keeper has a piece of the key, it is this piece or a newer one. If it
+/// has none, no later look-up reads an older entry.
 pub fn queued_are_found<C, Q>()
     ensures { (same : Q → Q → Bool) (key_of : C → Q) (hash_of : Q → ℕ)
         (rules : Rules C) (splits : Position → List (Record C) → List (BlockLayout C) → Bool) (is_value : C → Bool)

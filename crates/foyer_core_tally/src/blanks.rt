@@ -3,7 +3,7 @@ ghost use Rattle.std.specs.Prelude.{◌≡◌};
 
 use std::sync::ledger::Blank;
 
-/// Eight new ledgers, of which no type stands for one yet.
+/// Eight new ledgers, none of which is open yet.
 #[derive(Drop)]
 pub struct Blanks {
     // How many parts each has.
@@ -20,7 +20,7 @@ pub struct Blanks {
 }
 
 impl Blanks {
-    /// Of so many parts each.
+    /// Gives eight new ledgers of `parts` parts each.
     pub fn new(parts: u64) -> Blanks
         ensures { (result.queued.parts ≡ parts) × (result.dropped.parts ≡ parts) × (result.deleted.parts ≡ parts) × (result.read.parts ≡ parts) × (result.look_up_miss.parts ≡ parts) × (result.entry.parts ≡ parts) × (result.end_miss.parts ≡ parts) × (result.other.parts ≡ parts) }
     {

@@ -21,7 +21,7 @@ impl Kinds for Brand {
     ghost all = { 0 };
 }
 
-/// The ledger of the kind of a number.
+/// The ledger of the kind with the number `N`.
 pub struct Kind<L, const N: u8> {
     of: PhantomData<L>,
 }
@@ -108,7 +108,7 @@ fn merge<L: Ledger>(share: &mut Share<L>, other: Share<L>, count: &mut u64, more
 }
 
 impl Blanks {
-    /// The book, and the share that has all parts.
+    /// Gives the book, and the share that has all its parts. The ledgers must have the names and the number of parts that `L` says.
     pub fn open<L: Kinds>(self) -> (Books<L>, Shares<L>)
         requires { AreOf L.name_of L.all self }
         ensures book { result.0 ≡ none }
@@ -150,7 +150,7 @@ impl Blanks {
 }
 
 impl<L: Kinds> Books<L> {
-    /// Notes one more step of a kind, with a share.
+    /// Notes one more step of a kind, with a share that has at least one part.
     pub fn note(&mut self, shares: &mut Shares<L>, kind: StepKind)
         requires { 0 < shares.old.parts }
         ensures book { self.new ≡ grown kind self.old }
@@ -188,7 +188,7 @@ impl<L: Kinds> Books<L> {
         }
     }
 
-    /// Whoever has all parts knows how many steps of each kind were noted.
+    /// Shows that a share with all the parts has as many steps of each kind as the book. It changes nothing.
     pub fn audit(&mut self, all: &mut Shares<L>)
         requires { all.old.parts ≡ L.all }
         ensures book { self.new ≡ self.old }
@@ -221,7 +221,8 @@ impl<L: Kinds> Shares<L> {
         self.parts
     }
 
-    /// Gives so many parts of each ledger away, and no step.
+    /// Gives a new share that takes `parts` parts of each ledger from this one, and has no steps. `parts` must be more than 0, and less
+    /// than this share has.
     pub fn split(&mut self, parts: u64) -> Shares<L>
         requires some { 0 < parts }
         requires fewer { parts < self.old.parts }

@@ -2,12 +2,12 @@
 ghost use Rattle.std.specs.Prelude.{◌≡◌};
 ghost use Rattle.foyer_core_tally.specs.Tally.{listed, none};
 
-/// What a step was and what it got, as far as it is counted apart.
+/// The steps with their answers that are counted apart.
 #[derive(Clone, Copy, Debug, PartialEq, Eq)]
 pub enum StepKind {
     /// An enqueue that was queued.
     Queued,
-    /// An enqueue that was dropped, and so deletes.
+    /// An enqueue whose piece was dropped, and its hash deleted.
     Dropped,
     /// A delete.
     Deleted,
@@ -53,7 +53,7 @@ impl Counts {
         }
     }
 
-    /// In the order of the kinds.
+    /// Gives the numbers in the order of the kinds.
     pub fn to_array(&self) -> [u64; 8]
         ensures { result ≡ listed self.now }
     {

@@ -1,4 +1,4 @@
--- What is known where the opening or a step is told shows that it may come, and what is known then.
+-- What is known when the opening or a step is told shows that it may come; and what is known afterwards.
 use Rattle.std.proofs.Common.{◌≡◌, ◌⊎◌, inl, inr, ℕ, ◌+◌, ◌<◌, ◌≤◌, ◌==◌, ◌||◌, Bool, true, false, true≢false, List, [], ◌∷◌, ◌++◌, refl, sym, ap, ◌∙◌, subst, arith}
 use Rattle.std.proofs.lemmas.Bool.{eqb-true}
 use Rattle.foyer_core_chronicle.specs.Rights.{one, times}

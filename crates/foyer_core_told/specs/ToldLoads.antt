@@ -31,7 +31,7 @@ makes_ticket event = false
 abbrev pub tickets_in : {K V P A D : Type 0} → List (Told K V P A D) → ℕ
 tickets_in es = made makes_ticket es
 
--- a step that isn't handed back counts
+-- a step that isn't returned counts
 abbrev pub count_of : {K V P A : Type 0} → Reply K V P A → ℕ
 count_of (replies.NotNow back) = 0
 count_of (replies.Refused why back) = 0

@@ -42,7 +42,7 @@ abbrev pub IsPickOf : {K V P A D : Type 0} → Told K V P A D → ℕ → Type 0
 IsPickOf (told.Steps step reply core) b = IsPick reply.value b
 IsPickOf event b = ⊥
 
--- the reply begins the reclaim of this block, or a destroy
+-- the reply begins the reclaim of this block, or says that a destroy cleared the index
 abbrev pub takes_away : {K V P A : Type 0} → ℕ → Reply K V P A → Bool
 takes_away b (replies.Picked c answers probation) = b == c
 takes_away b replies.Cleared = true
@@ -77,7 +77,7 @@ IsFound h n throttled answer =
     ((throttled ≡ true) × (answer ≡ replies.Throttled))
     ⊎ ((throttled ≡ false) × ((ticket : Ticket) × (answer ≡ replies.Read ticket) × (ticket.hash ≡ h) × (ticket.address.sequence ≡ n)))
 
--- the end was refused for this cause, and handed back
+-- the end of a load was refused for this cause, and returned
 abbrev pub IsRefusedFor : {K V P A : Type 0} → Meaning K V P → Kind → Ticket → Result (Vec ℕ A) Error → Reply K V P A → Type 0
 IsRefusedFor m kind ticket outcome (replies.Refused why back) =
     (kind_of why ≡ Some kind) × (step_of m back ≡ model_step.LoadEnd (ticket_of ticket) (came_of outcome))
@@ -109,7 +109,7 @@ LooksUpToldNewest K V P A D =
 
 -- The same holds of a look-up, its own read and its end. If what was newest of its hash when it looked was the put of a record,
 -- there are three cases. The answer is as `IsAnswerTo` says of that record; or the reclaim of the record's block had begun before
--- the look-up; or that reclaim or a destroy began between the look-up and the end.
+-- the look-up; or that reclaim began, or a destroy cleared the index, between the look-up and the end.
 abbrev pub EndsAsToldNewest : (K V P A D : Type 0) → Type 0
 EndsAsToldNewest K V P A D =
     (m : Meaning K V P) (s : Settings) (sound : AreValid s) (byte_at : D → ℕ → ℕ → ℕ) (before mid late : List (Told K V P A D)) (looked read ended : Told K V P A D)
@@ -136,7 +136,7 @@ LookUpMissesAreCaused K V P A D =
     × ((n : ℕ) (x : Outcome Content) → newest h v.history ≡ Some (Put h n x) → x ≢ NoRecord → IsTaken m s sound byte_at before v h (Put h n x))
 
 -- A load that read its bytes and misses a record that was newest when it looked: the reclaim of its block had begun before the
--- look-up, or that or a destroy began between the look-up and the end.
+-- look-up; or that reclaim began, or a destroy cleared the index, between the look-up and the end.
 abbrev pub EndMissesAreCaused : (K V P A D : Type 0) → Type 0
 EndMissesAreCaused K V P A D =
     (m : Meaning K V P) (s : Settings) (sound : AreValid s) (byte_at : D → ℕ → ℕ → ℕ) (before mid late : List (Told K V P A D)) (looked read ended : Told K V P A D)

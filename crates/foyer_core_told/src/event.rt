@@ -6,7 +6,8 @@ use foyer_device_page::error::Result;
 use std::alloc::Allocator;
 use std::snapshot::Snapshot;
 
-/// An opening, a step of the core, or a whole access of the disk, each in one go under its lock. Its contents are in proofs alone.
+/// An opening, a step of the core, or a whole access of the disk. Each is done in one go under its lock. The snapshots in it exist in
+/// proofs alone.
 #[derive(Drop)]
 pub enum Told<K, V, P, A: Allocator, D> {
     /// An opening left this core, over this disk. It is the first event.
@@ -20,7 +21,7 @@ pub enum Told<K, V, P, A: Allocator, D> {
         reply: Snapshot<Reply<K, V, P, A>>,
         core: Snapshot<Core<K, V, P, A>>,
     },
-    /// The read of a ticket, by how many tickets were issued before it.
+    /// The read of the ticket with this number. The number is how many tickets were issued before this one.
     Reads {
         number: u64,
         outcome: Snapshot<Result<Vec<u8, A>>>,

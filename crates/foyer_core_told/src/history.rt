@@ -1,4 +1,4 @@
-//! The history as threads have it: its rule, and who tells the opening and the steps.
+//! The history as threads have it: its rule, and the functions that add the opening and the steps to it.
 ghost use Rattle.std.specs.Prelude.{◌≡◌, ◌+◌, ◌<◌, [], IfOk, true, false};
 ghost use Rattle.foyer_core_chronicle.specs.Rights.{times};
 ghost use Rattle.foyer_core_model.specs.Numbers.{last_number};
@@ -62,7 +62,7 @@ impl RightNumber for CoreRight {
 /// The history of a core and its disk.
 pub type ToldHistory<K, V, P, A, D> = Chronicle<Told<K, V, P, A, D>, ToldRule<K, V, P, A, D>>;
 
-/// A thread's witness of it.
+/// A thread's witness of such a history.
 pub type ToldWitness<K, V, P, A, D> = Witness<Told<K, V, P, A, D>>;
 
 /// An empty history, and the witness that has all rights.
@@ -80,7 +80,8 @@ where
     Chronicle::open(alloc)
 }
 
-/// Tells the opening, as the first event.
+/// Adds the opening to the history, as the first event. Requires a core that was just opened, and a witness that has seen nothing and has
+/// the rights of the core and of the disk.
 pub fn tell_opening<K, V, P, A, D>(
     history: &ToldHistory<K, V, P, A, D>,
     witness: &mut ToldWitness<K, V, P, A, D>,
@@ -106,7 +107,7 @@ where
     history.add(witness, &event);
 }
 
-// One ticket more, if the reply issues one: how many there were before.
+// Counts one more ticket, if the reply issues one. Gives how many there were before.
 fn count_ticket<K, V, P, A: Allocator>(tickets: &mut u64, reply: &Reply<K, V, P, A>) -> u64
     ensures before { result ≡ tickets.old }
     ensures same { is_read reply.now ≡ false → tickets.new ≡ tickets.old }
@@ -119,9 +120,10 @@ fn count_ticket<K, V, P, A: Allocator>(tickets: &mut u64, reply: &Reply<K, V, P,
     number
 }
 
-/// Tells a step of the core, its reply, and the core that it left, under the core's lock. `own` is the lock's witness, which knows the core
-/// before. `mine` is the caller's, with the right of the step; a read that is issued leaves the right of its ticket there. The result
-/// is the number of the next ticket before the step: that of the one that it issues, if it does.
+/// Adds a step of the core, its reply, and the core that it left to the history, under the core's lock. `own` is the lock's witness: it
+/// must know the core before the step and have the core's right. `mine` is the caller's: it must have the right that the step takes, and
+/// know that the outcome that the step reports is true. If the step issues a read, `mine` gets the right of the ticket. Gives how many
+/// tickets were issued before. If the step issues one, that is the ticket's number.
 pub fn tell_step<K, V, P, A, D>(
     history: &ToldHistory<K, V, P, A, D>,
     own: &mut ToldWitness<K, V, P, A, D>,

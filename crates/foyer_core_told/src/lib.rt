@@ -1,4 +1,4 @@
-//! The one history of what all threads do to a core and its disk, and the laws of it. An event is told where it is in that history.
+//! The one history of what all threads do to a core and its disk, and the laws of it. `Told` in a name means: recorded in that history.
 #![tactic(auto)]
 
 pub mod event;

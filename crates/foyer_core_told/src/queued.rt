@@ -5,22 +5,22 @@ ghost use Rattle.foyer_core_told.specs.ToldQueued as moves;
 use foyer_core_steps::step::Step;
 use std::alloc::Allocator;
 
-/// What a step does with pieces, if its reply says that it did.
+/// What a step can do with pieces. Its reply says whether it did.
 #[derive(Clone, Copy)]
 pub enum Moving {
-    /// It brings a piece of this hash, to be queued at the hash's flusher.
+    /// It queues a piece of this hash at the hash's flusher.
     Queues(u64),
-    /// It takes the front of this flusher's queue, which may hand a piece back.
+    /// It takes the front of this flusher's queue, and may return a piece.
     Receives(u32),
     /// It begins a batch of this flusher.
     Begins(u32),
-    /// It ends a batch of this flusher, whose pieces are handed back.
+    /// It ends a batch of this flusher, and returns the batch's pieces.
     Ends(u32),
     /// It moves no piece.
     Other,
 }
 
-/// What a step does with pieces.
+/// Gives what a step can do with pieces.
 pub fn moving_of<K, V, P, A: Allocator>(step: &Step<K, V, P, A>) -> Moving
     ensures { result ≡ moves.moving_of step.now }
 {

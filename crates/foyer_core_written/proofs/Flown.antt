@@ -1,4 +1,4 @@
--- What was queued at a flusher is what it has handed back and what is on its way there.
+-- What was queued at a flusher is what it has returned and what is on its way there.
 use Rattle.std.proofs.Common.{◌≡◌, ℕ, ◌+◌, ◌==◌, Bool, true, false, if◌then◌else◌, List, [], ◌∷◌, ◌++◌, length, Some, inl, inr, refl, sym, ap, ◌∙◌, length-append, arith}
 use Rattle.std.proofs.lemmas.Bool.{eqb-true, eqb-false}
 use Rattle.foyer_core_model.specs.Numbers.{put}
@@ -29,7 +29,7 @@ moved_length base over behind x =
     omega (arith, length-append (base ++ x ∷ []) (over ++ behind), front, length-append over behind, length-append base (over ++ x ∷ behind), rest)
 
 module _ {C : Type 0} (rules : Rules C) (Splits : Splitting C) (is_value : C → Type 0) (w : World C) (q : ℕ) where
-  -- nothing is counted that was handed back before
+  -- nothing is counted that was returned before
   abbrev no_back : ℕ → List (ℕ × C)
   no_back f = []
 
@@ -80,14 +80,14 @@ module _ {C : Type 0} (rules : Rules C) (Splits : Splitting C) (is_value : C →
   front_length f d done (Piece h s n c ∷ rest) ok = refl
   front_length f d done queue ok = absurd ok
 
-  -- what is handed back grows by its count
+  -- what is returned grows by its count
   back_grows : (e : WorldEvent C) → MayHappen rules Splits is_value w e → length (back_after w e no_back q) ≡ returns_at q e
   back_grows (Applies (Receive f) (Received (Some d)) new) (fed, (few, turn, (done, changes, eq))) =
       put_length f (front_piece (w.core.flushers f).queue) ∙ ap (λ n. if f == q then n else 0) (front_length f d done (w.core.flushers f).queue changes)
   back_grows (Applies (FlushEnd f) (Ended pieces waits) new) ok = put_length f pieces
   back_grows e ok = refl
 
-  -- what is on its way grows by what is queued, less what is handed back
+  -- what is on its way grows by what is queued, less what is returned
   pub flight_grows : (e : WorldEvent C) → MayHappen rules Splits is_value w e
       → length (flight ((after rules w e).core.flushers q)) + returns_at q e ≡ length (flight (w.core.flushers q)) + queues_at rules q e
   flight_grows e ok =
@@ -99,7 +99,7 @@ module _ {C : Type 0} (rules : Rules C) (Splits : Splitting C) (is_value : C →
   flown w [] ok = refl
   flown w (e ∷ es) ok = omega (arith, flight_grows rules Splits is_value w q e ok.0, flown (after rules w e) es ok.1)
 
-  -- from an opened core all that was queued is handed back or on its way
+  -- from an opened core all that was queued is returned or on its way
   pub flown_since : (first : World C) (es : List (WorldEvent C)) → IsOpened rules first → MayAllHappen rules Splits is_value first es
       → length (flight ((after_all rules first es).core.flushers q)) + returned_at q es ≡ queued_at rules q es
   flown_since first es opened ok =

@@ -1,4 +1,4 @@
--- How the place of a piece changes where its flusher does.
+-- How the place of a piece changes if its flusher does.
 use Rattle.std.proofs.Common.{◌≡◌, ℕ, suc, ◌+◌, ◌<◌, ◌≤◌, Bool, false, List, [], ◌∷◌, ◌++◌, length, map, Some, None, ◌⊎◌, inl, inr, sym, ap, subst, ◌∙◌, arith}
 use Rattle.foyer_core_model.specs.Record.{Given, Record}
 use Rattle.foyer_format_layout.specs.BlockBytes.{Write}
@@ -82,7 +82,7 @@ module _ {C : Type 0} (h s : ℕ) (rules : Rules C) (place n passed : ℕ) where
       front_counts : queue_count φ.queue ≡ queue_count (Piece q u k c ∷ rest)
       front_counts = ap queue_count is
 
-  -- a piece is handed back from the front of the queue: it is this one, or one more was passed
+  -- a piece is returned from the front of the queue: it is this one, or one more was passed
   pub lies_returned : (φ : Flusher C) (q u k : ℕ) (c : C) (rest : List (Submission C)) → φ.queue ≡ Piece q u k c ∷ rest → At n passed φ
       → At n (suc passed) (record φ { queue = rest }) ⊎ ((q ≡ h) × (u ≡ s))
   lies_returned φ q u k c rest is lies =

@@ -173,7 +173,7 @@ module _ {C : Type 0} (rules : Rules C) (Splits : Splitting C) (h s place n m : 
       go false e = more (put w.core.flushers f ψ q) (unturned f ψ (λ at. eqb-false f q e (sym at)))
   enqueues_goes k z age c reply new core ok = absurd ok
 
-  -- the front of a queue is taken, or handed back
+  -- the front of a queue is taken, or returned
   takes_goes : (f : ℕ) (queue : List (Submission C)) (reply : Reply C) (new core : State C) → (w.core.flushers f).queue ≡ queue
       → TakesFront rules w.core f queue reply new → Goes (Applies (Receive f) reply core) new
   takes_goes f [] Empty new core is ok = inl (stays new w.core ok lies)
@@ -223,7 +223,7 @@ module _ {C : Type 0} (rules : Rules C) (Splits : Splitting C) (h s place n m : 
       go false e = stays new _ ok.2 (unturned f _ (λ at. eqb-false f q e (sym at)))
   begins_goes places f reply new core none ok = absurd ok
 
-  -- a write is reported: where its block is done, the piece's record was committed, or isn't of it
+  -- a write is reported: if its block is done, the piece's record was committed, or isn't of that block
   wrote_goes : (f : ℕ) (good : Bool) (batch : Option (Batch C)) (reply : Reply C) (new core : State C) → (w.core.flushers f).batch ≡ batch
       → Wrote rules w.core f good batch reply new → Goes (Applies (FlushWrote f good) reply core) new
   wrote_goes f true (Some batch) Next new core is (t, first, second, rest, writing, left, eq) =
@@ -281,7 +281,7 @@ module _ {C : Type 0} (rules : Rules C) (Splits : Splitting C) (h s place n m : 
   does_goes places (DestroyCleaned b well) reply new core turn ok = inl (cleans_goes b well w.core.destroy reply new ok)
   does_goes places Close reply new core turn ok = inl (stays new _ ok.1 lies)
 
-  -- a step that is handed back counts for nothing
+  -- a step that is returned counts for nothing
   not_now_goes : (step back : Step C) (new : State C) → Still new → Goes (Applies step (NotNow back) new) new
   not_now_goes (Enqueue k z age c) back new still = inl still
   not_now_goes (Receive f) back new still = inl still

@@ -1,4 +1,4 @@
--- A piece whose place was handed back is past, unless something was lost.
+-- A piece whose place was returned is past, unless something was lost.
 use Rattle.std.proofs.Common.{◌≡◌, ℕ, suc, ◌+◌, ◌≤◌, List, [], ◌∷◌, ◌++◌, length, ◌⊎◌, inl, inr, refl, sym, ap, subst, ◌∙◌, arith}
 use Rattle.foyer_core_model.specs.State.{Piece, Flusher, State}
 use Rattle.foyer_core_model.specs.Rules.{Rules, flusher_of, Splitting}

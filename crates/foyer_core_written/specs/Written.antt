@@ -20,7 +20,7 @@ returns_at f (Applies (Receive g) (Received (Some d)) new) = if g == f then 1 el
 returns_at f (Applies (FlushEnd g) (Ended pieces waits) new) = if g == f then length pieces else 0
 returns_at f event = 0
 
--- how many it handed back from the front of its queue since its last batch began
+-- how many pieces a flusher returned from the front of its queue since its last batch began
 abbrev pub passed_after : {C : Type 0} → ℕ → WorldEvent C → ℕ → ℕ
 passed_after f (Applies (Receive g) (Received (Some d)) new) n = if g == f then suc n else n
 passed_after f (Applies (FlushBegin g) (Began blocks marks) new) n = if g == f then 0 else n
@@ -50,9 +50,10 @@ HasLost (e ∷ es) = HasLost es
 abbrev pub IsPast : {C : Type 0} → (hash sequence : ℕ) → World C → Type 0
 IsPast h s w = s ≤ sequence_in (newest h w.history)
 
--- A piece was queued, and had a place among those that were queued at its flusher, from 1 on. Once the flusher is in no batch, and has handed
--- back so many that its place is among them, not counting those that it handed back from the front of its queue since its last batch began, the
--- piece was committed, or deleted, or something newer of its hash was; unless a batch failed since, or a destroy cleared the index.
+-- A piece was queued, and had a place among those that were queued at its flusher, from 1 on. Count the pieces that the flusher has
+-- returned, without those that it returned from the front of its queue since its last batch began. If the flusher has no batch and the
+-- count reaches the place, the piece or something newer of its hash was committed or deleted. Exceptions: a batch failed since, or a
+-- destroy cleared the index.
 abbrev pub QueuedAreWritten : {C : Type 0} → Rules C → Splitting C → (C → Type 0) → Type 0
 QueuedAreWritten {C} rules Splits is_value =
     (first : World C) (before since : List (WorldEvent C)) (h n : ℕ) (age : Age) (c : C) (s : ℕ) (queued : State C)

@@ -1,6 +1,6 @@
 //! Errors, buffers of whole pages, devices with their partitions, their limits and counters.
 //!
-//! A door: it passes on what its parts have, `foyer_device_page`, `foyer_device_throttle`, `foyer_device_partition` and
+//! A door: it re-exports names of its parts, `foyer_device_page`, `foyer_device_throttle`, `foyer_device_partition` and
 //! `foyer_device_statistics`, and has no code of its own.
 #![tactic(auto)]
 

@@ -7,7 +7,7 @@ use std::alloc::{AllocError, AllocFailed};
 use std::{fmt, io};
 use thiserror::Error;
 
-/// The kind of an error, as the program names it, and a number for it that stays. It prints as its name.
+/// The kind of an error, with its name in the program and a stable number. It prints as its name.
 #[derive(Clone, Copy, Debug, PartialEq, Eq)]
 pub enum ErrorKind {
     /// As `Error::Io`.
@@ -69,16 +69,17 @@ impl fmt::Display for ErrorKind {
     }
 }
 
-/// What a call answers in place of its result. A refused call leaves its object as it was, unless it says otherwise.
+/// What a call gives in place of its result. A refused call leaves its object as it was, unless the call's comment says otherwise.
 #[derive(Clone, Copy, Debug, PartialEq, Eq, Error)]
 pub enum Error {
-    /// The device, or the writer that a code or a serializer was given, failed during the call.
+    /// The device, the system's clock, or the writer that a code or a serializer was given, failed. Or a flush can't end, since a write was
+    /// never reported.
     #[error("I/O error")]
     Io,
-    /// An allocation was refused.
+    /// An allocation was refused, a thread couldn't be made, or a shared value has as many owners as can be counted.
     #[error("out of memory")]
     Memory,
-    /// Settings that don't go together.
+    /// A setting or an argument that isn't valid, or settings that don't go together.
     #[error("invalid configuration")]
     Config,
     /// Bytes that decode to no value, or a text that names none.
@@ -90,25 +91,25 @@ pub enum Error {
     /// Bytes that have another checksum than the one that was given.
     #[error("checksum mismatch")]
     ChecksumMismatch,
-    /// An id, a page or a range that isn't there, or a size that can't be rounded up to whole pages.
+    /// An id, a page or a range that isn't there, or a size or a count that passes its type's end.
     #[error("out of range")]
     OutOfRange,
     /// A writer that has no room for all the bytes.
     #[error("buffer size limit exceeded")]
     BufferSizeLimit,
-    /// A size that exceeds what the device has free.
+    /// A size that exceeds what the device has free, or no block that can be reclaimed.
     #[error("no space left on the device")]
     NoSpace,
     /// A block that could not be read while opening strictly.
     #[error("recovery failed")]
     Recover,
-    /// The engine takes no more entries or deletes.
+    /// The engine is closed: it takes no more entries, deletes or destroys.
     #[error("closed")]
     Closed,
-    /// A compression that this engine reads past and doesn't undo.
+    /// A compression other than `None`, which this engine neither applies nor undoes.
     #[error("not supported")]
     Unsupported,
-    /// The last sequence, or the last step, was reached.
+    /// The sequences, the steps, or the numbers of a keeper's shard are used up.
     #[error("sequence numbers exhausted")]
     SequenceEnd,
 }

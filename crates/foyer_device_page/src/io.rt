@@ -1,3 +1,3 @@
-//! What the device and its engines are made of.
+//! The buffers that devices and their engines use.
 
 pub mod bytes;

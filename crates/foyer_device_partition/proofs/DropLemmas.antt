@@ -37,7 +37,7 @@ part_next first n a r old new same later sum next =
     let pushed = total_push n (drop first old) in
     rw same (simp length-append (omega (arith, later)), rw (drop_push first old n later) (omega (arith, pushed, sum, next)))
 
--- the sum with y, where y is what a push put behind ws
+-- the sum with y, if y is what a push put after ws
 pub total_map : {X : Type 0} (f : X → ℕ) (zs ws xs : List X) (y : X) (m a r : ℕ) → zs ≡ ws ++ y ∷ [] → f y ≡ m → a ≡ total_size (map f xs) → r ≡ min (a + m) (2 ^ 64 - 1)
     → r ≡ total_size (map f (xs ++ y ∷ []))
 total_map f zs ws xs y m a r put same sum next =

@@ -12,7 +12,7 @@ use Rattle.foyer_device_statistics.specs.declared.view.View.{View}
 use Rattle.foyer_device_statistics.specs.Counted.{view, zeros, at, sum_of, Fits, Counted, Grows, Adds, Loads, both, spent, plus, higher, Records}
 use Rattle.foyer_device_statistics.proofs.CounterSums.{total_set, total_snoc, total_member, total_only}
 
--- where no sum shrinks, the views of the others still fit
+-- if no sum shrinks, the views of the others still fit
 kept : (views : List View) (id : ℕ) (w : View) → ((j : ℕ) (u : View) → get_elem? views j ≡ some u → Fits views u)
     → ((i : ℕ) → sum_of i views ≤ sum_of i (set views id w)) → Fits (set views id w) w
     → (j : ℕ) (u : View) → get_elem? (set views id w) j ≡ some u → Fits (set views id w) u

@@ -19,7 +19,7 @@ total_member f [] id v e = absurd (some-ne-none v (sym e))
 total_member f (x ∷ xs) zero v e = let s = ap f (some-injective x v e) in omega arith
 total_member f (x ∷ xs) (suc id) v e = let t = total_member f xs id v e in omega arith
 
--- where nobody has a part, nobody has anything
+-- if nobody has a part, nobody has anything
 total_none : (p f : View → ℕ) (views : List View) → ((id : ℕ) (v : View) → get_elem? views id ≡ some v → p v ≡ 0 → f v ≡ 0) → total p views ≡ 0 → total f views ≡ 0
 total_none p f [] idle none = refl
 total_none p f (x ∷ xs) idle none =

@@ -1,10 +1,10 @@
 //! What a device did: the bytes and calls that were read and written, counted without a lock, and how long its limits
 //! make a caller wait.
 //!
-//! Four counters stand in one table. Whoever records or reads them has a `Seat`, and steps without waiting and without
-//! memory: a step adds to one counter, or loads one. A seat knows what it recorded and the most that it saw of each
-//! counter, and never sees less than either. All seats together have 2^32 parts; a seat splits off others, and joins
-//! them again. Whoever has every part has all that was recorded, which `Statistics::close` gives.
+//! The four counters are in one table. Whoever records or reads them has a `Seat`. To add to a counter or to load it takes
+//! no memory and waits for nobody. A seat knows what it recorded and the most that it saw of each counter, and never
+//! sees less than either. All seats together have 2^32 parts. A seat can split off others, and join them again. The seat
+//! that has all parts has all that was recorded, which `Statistics::close` gives.
 //!
 //! What is counted is exact while each counter's sum stays below 2^64.
 #![tactic(auto)]

@@ -28,8 +28,8 @@ impl Meters {
         }
     }
 
-    /// Gives how long both limits make a caller wait at the moment `now`, if so many bytes and calls were recorded.
-    /// This is the greater of the two waits.
+    /// Gives how long both limits make a caller wait at the moment `now`, if `bytes` and `ios` were recorded in all. This
+    /// is the longer of the two waits. The first of `limits` is that of bytes, the second that of calls.
     pub fn poll(
         &mut self,
         limits: (Option<NonZeroUsize>, Option<NonZeroUsize>),

@@ -15,7 +15,7 @@ use std::marker::Model;
 use std::sync::{Arc, Wait};
 use std::time::Duration;
 
-/// What a caller carries to record and to read, with no word of which counters these are.
+/// A seat together with its counters, so that its owner can record and read without naming the counters.
 pub struct Recorder<A: Allocator> {
     seat: Seat,
     statistics: Arc<Statistics<A>, A>,
@@ -75,7 +75,8 @@ impl<A: Allocator> Recorder<A> {
         *self.statistics.throttle()
     }
 
-    /// A recorder at the same counters that has so many of this one's parts, and has recorded nothing. Memory.
+    /// Splits off a recorder at the same counters. It has `parts` of this one's parts, but not all, and has recorded
+    /// nothing. Error: Memory. Then this recorder is as before.
     pub fn split(&mut self, parts: u64) -> Result<Recorder<A>>
         requires { (0 < parts) × (parts < self.old.view.parts) }
         ensures given { IfOk result (λ c. (c.table ≡ self.old.table) × (c.limits ≡ self.old.limits)
@@ -161,7 +162,7 @@ impl<A: Allocator> Recorder<A> {
         self.statistics.read_throttle(rt, &mut self.seat, now)
     }
 
-    /// Whether a caller is to wait before the next write.
+    /// Whether the limits make a caller wait before the next write.
     pub fn is_write_throttled(&mut self, rt: &impl Wait, now: u64) -> bool
         ensures same { (self.new.table ≡ self.old.table) × (self.new.limits ≡ self.old.limits) }
         ensures sees { SeesMore self.old.view self.new.view }
@@ -171,7 +172,7 @@ impl<A: Allocator> Recorder<A> {
         self.statistics.is_write_throttled(rt, &mut self.seat, now)
     }
 
-    /// Whether a caller is to wait before the next read.
+    /// Whether the limits make a caller wait before the next read.
     pub fn is_read_throttled(&mut self, rt: &impl Wait, now: u64) -> bool
         ensures same { (self.new.table ≡ self.old.table) × (self.new.limits ≡ self.old.limits) }
         ensures sees { SeesMore self.old.view self.new.view }

@@ -10,9 +10,9 @@ pub struct IoState {
     pub disk_read_bytes: u64,
     /// Calls that wrote, as the counter of calls counts them.
     pub disk_write_ios: u64,
-    /// Calls that read, counted so.
+    /// Calls that read, counted in the same way.
     pub disk_read_ios: u64,
-    /// How long to wait before the next write, and zero if nothing is to be waited for.
+    /// How long to wait before the next write, or zero if no wait is needed.
     pub write_throttle: Duration,
     /// How long to wait before the next read.
     pub read_throttle: Duration,
@@ -27,6 +27,6 @@ pub struct Totals {
     pub disk_read_bytes: u64,
     /// Calls that wrote, as the counter of calls counts them.
     pub disk_write_ios: u64,
-    /// Calls that read, counted so.
+    /// Calls that read, counted in the same way.
     pub disk_read_ios: u64,
 }

@@ -25,8 +25,8 @@ const WRITE_IOS: usize = 2;
 
 const READ_IOS: usize = 3;
 
-/// A place at the counters. Contracts see which counters, and what it recorded and saw. It takes no memory; one that is
-/// dropped keeps its parts, so that nobody has all of them again.
+/// A place at the counters, to be used with these counters only. Contracts see which counters they are, and what the seat
+/// recorded and saw. It takes no memory. If a seat is dropped, its parts are lost, so nobody can have all parts again.
 #[derive(Drop)]
 pub struct Seat {
     place: TableSeat<(), View>,
@@ -78,7 +78,7 @@ impl<A: Allocator> Model for Statistics<A> {
 
 impl<A: Allocator> Statistics<A> {
     /// Counters of 0, and the seat that has every part. The limits' quotas begin at the moment `now`, in nanoseconds.
-    /// Memory.
+    /// Error: Memory.
     pub fn new(alloc: A, throttle: Throttle, now: u64) -> Result<(Statistics<A>, Seat)>
         ensures seat { IfOk result (λ r. (r.1.table ≡ r.0.table) × (r.1.view ≡ first_view)) }
         ensures limits { IfOk result (λ r. r.0.limits ≡ throttle) }
@@ -101,7 +101,7 @@ impl<A: Allocator> Statistics<A> {
         &self.throttle
     }
 
-    /// A seat that has so many parts of this one's, and has recorded nothing.
+    /// Splits off a seat that has `parts` of this one's parts, but not all, and has recorded nothing.
     pub fn split(&self, seat: &mut Seat, parts: u64) -> Seat
         requires table { seat.old.table ≡ self.now.table }
         requires parts { (0 < parts) × (parts < seat.old.view.parts) }
@@ -272,7 +272,7 @@ impl<A: Allocator> Statistics<A> {
         self.poll_reads(rt, seat, now).wait
     }
 
-    /// Whether a caller is to wait before the next write.
+    /// Whether the limits make a caller wait before the next write.
     pub fn is_write_throttled(&self, rt: &impl Wait, seat: &mut Seat, now: u64) -> bool
         requires { seat.old.table ≡ self.now.table }
         ensures table { seat.new.table ≡ seat.old.table }
@@ -283,7 +283,7 @@ impl<A: Allocator> Statistics<A> {
         !self.write_throttle(rt, seat, now).is_zero()
     }
 
-    /// Whether a caller is to wait before the next read.
+    /// Whether the limits make a caller wait before the next read.
     pub fn is_read_throttled(&self, rt: &impl Wait, seat: &mut Seat, now: u64) -> bool
         requires { seat.old.table ≡ self.now.table }
         ensures table { seat.new.table ≡ seat.old.table }
@@ -316,7 +316,7 @@ impl<A: Allocator> Statistics<A> {
         }
     }
 
-    /// All that was recorded, for whoever has joined all seats.
+    /// Gives all that was recorded. The seat must have all 2^32 parts.
     pub fn close(self, all: Seat) -> Totals
         requires table { all.table ≡ self.table }
         requires parts { all.view.parts ≡ 2 ^ 32 }

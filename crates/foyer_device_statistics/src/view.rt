@@ -1,4 +1,4 @@
-//! What a seat knows. No value of it is made: it stands in contracts alone.
+//! What a seat knows. Only contracts use it: no value of this type is made.
 use std::collections::LinkedList;
 
 /// The parts that the seat has, what it recorded on each counter, and the most that it saw there.

@@ -11,9 +11,9 @@ use std::str::FromStr;
 /// How calls are counted against a limit of calls.
 #[derive(Clone, Copy, Debug, PartialEq, Eq)]
 pub enum IopsCounter {
-    /// Each call counts 1, one of no bytes too.
+    /// Each call counts 1, even a call of no bytes.
     PerIo,
-    /// A call counts 1 for each so many bytes, rounded up.
+    /// A call counts its bytes divided by this number, rounded up.
     PerIoSize(NonZeroUsize),
 }
 
@@ -77,8 +77,8 @@ impl FromStr for IopsCounter {
 
     ghost from_str_gives = { IsCounterOf };
 
-    /// `PerIo`, or `PerIoSize(n)` with the decimal digits of a number other than 0, perhaps after a `+`; white space
-    /// around it counts for nothing. Every other text is Parse.
+    /// Reads `PerIo`, or `PerIoSize(n)` with the decimal digits of a number from 1 to 2^64 - 1, perhaps after a `+`.
+    /// White space around the text is skipped. Error: Parse for every other text.
     fn from_str(s: &str) -> Result<IopsCounter, Error> {
         let text = s.trim();
         if text == "PerIo" {

@@ -3,7 +3,7 @@ ghost use Rattle.foyer_device_throttle.specs.Quota.{LastPollCounts};
 ghost use Rattle.foyer_device_throttle.specs.Meter.{RecordingsCount};
 ghost use Rattle.foyer_device_throttle.specs.Text.{TextsReadBack};
 
-/// Polls without a record between them leave what the last one alone leaves.
+/// Polls without a record between them, none at a later moment than the last one, leave the quota that the last alone leaves.
 pub fn last_poll_counts()
     ensures { LastPollCounts }
 {}
@@ -13,7 +13,7 @@ pub fn recordings_count()
     ensures { RecordingsCount }
 {}
 
-/// What is printed of a way to count calls is read back as that one.
+/// The text of a way to count calls reads back as this way.
 pub fn texts_read_back()
     ensures { TextsReadBack }
 {}

@@ -5,8 +5,8 @@
 //! by the limit for each second since the poll before, up to the limit. While it is below 0 a poll answers how long
 //! filling takes until it is 0.
 //!
-//! A `Meter` keeps of a quota what was filled. What was recorded is counted elsewhere, without a lock, and handed in
-//! at a poll: so no record that comes between two polls is lost.
+//! A `Meter` keeps only what was filled of a quota. What was recorded is counted elsewhere, without a lock, and passed
+//! to each poll. So no record between two polls is lost.
 #![tactic(auto)]
 
 pub mod iops;

@@ -13,7 +13,7 @@ use std::time::Duration;
 /// The billionths of a unit in a unit.
 const BILLION: u128 = 1_000_000_000;
 
-/// What is kept of the quota of a limit: how much was filled, and up to which moment. The quota is that less what was
+/// How much of a limit's quota was filled, and up to which moment. The quota is what was filled minus what was
 /// recorded.
 #[derive(Drop)]
 pub struct Meter {
@@ -44,9 +44,9 @@ impl Meter {
         }
     }
 
-    /// Gives how long it takes until the quota of a limit is 0, if so many units were recorded in all. The moment is
-    /// `now`, in nanoseconds. Gives zero if the quota isn't below 0, or if there is no limit. A moment before the
-    /// last one counts as the last one.
+    /// Fills the quota of a limit up to the moment `now`, in nanoseconds. Gives how long further filling takes until
+    /// the quota is 0, if `recorded` units were recorded in all. Gives zero if the quota isn't below 0. Without a
+    /// limit, gives zero and changes nothing. A moment before the last one counts as the last one.
     pub fn poll(&mut self, limit: Option<NonZeroUsize>, recorded: u64, now: u64) -> Duration
         ensures polled { IsPolled limit recorded now self.old self.new (as_nanos result) }
         ensures led { IfSome limit (λ l. (begun : ℕ) (events : List Event)
@@ -59,7 +59,7 @@ impl Meter {
         }
     }
 
-    // The same of a limit that is there.
+    // The same, for a limit.
     fn fill(&mut self, limit: usize, recorded: u64, now: u64) -> Duration
         requires { 0 < limit }
         ensures filled { quota_of self.new recorded ≡ after limit (quota_of self.old recorded) (Polled now) }
@@ -84,7 +84,7 @@ fn widening_mul(a: u64, b: u64) -> u128
     a as u128 * b as u128
 }
 
-// How long so many billionths take, at so many units a second.
+// How long `missing` billionths take at `limit` units a second.
 fn nanos_of(missing: u128, limit: u128) -> Duration
     requires some { 0 < limit }
     requires few { missing < 2 ^ 64 * 1000000000 }

@@ -1,5 +1,5 @@
-//! `foyer_example SOURCE CACHE`: reads files of the directory SOURCE, whose names it is given on standard input, through a cache in the directory
-//! CACHE. What was read once comes from the cache from then on, also when the program is run again.
+//! `foyer_example SOURCE CACHE`: reads files of the directory SOURCE, whose names it is given on standard input, through a cache in the
+//! directory CACHE. A file that was read before comes from the cache if the cache still has it, even if the program is run again.
 #![tactic(auto)]
 
 ghost use Rattle.foyer_storage.specs.Ledgers.{AreOf};
@@ -27,7 +27,7 @@ type Hashes = StdHashBuilder<BuildHasherDefault<FoldHasher>>;
 // A cache of files by their names, over any engine.
 type Shelf<N> = Store<N, String, Vec<u8>, NoProperties, Hashes>;
 
-// A megabyte of files, of which no more than 64 MiB are written a second.
+// A device of 1 MiB in files. A put isn't admitted while its limit of 64 MiB written a second is used up.
 fn device<R: Files<File = File> + AllocGlobal>(
     rt: &R,
     alloc: Global,
@@ -40,7 +40,7 @@ fn device<R: Files<File = File> + AllocGlobal>(
         .build(rt, alloc, now)
 }
 
-// Two threads write into blocks of 64 KiB, deletes last over a restart, and files of 40,000 bytes and more aren't kept.
+// Two threads write into blocks of 64 KiB, deletes are logged, and files of 40,000 bytes and more aren't kept.
 fn config(alloc: Global, device: FsDevice<Global>) -> Result<BlockEngineConfig<FsDevice<Global>>> {
     let small = EstimatedSize::new(Bound::Unbounded, Bound::Excluded(40_000));
     let admission = StorageFilter::new();
@@ -61,7 +61,7 @@ fn path_of(alloc: Global, directory: &str, name: &str) -> Result<String> {
     Ok(path)
 }
 
-// Reads a file, from the cache if it is there. Gives the file's bytes and where they come from.
+// Reads a file, from the cache if it is there. Gives how many bytes the file has, and a word for where they come from.
 fn read_through<S: Drop, N: Engine<S, String, Vec<u8>, NoProperties>, R>(
     rt: &R,
     alloc: Global,
@@ -164,7 +164,7 @@ where
     closed
 }
 
-// The words of the command line, and what the program ends with: 2 if they aren't a program and two directories, 1 if it failed.
+// Does what the words of the command line say, and gives the exit status: 2 if they aren't a program and two directories, 1 if it failed.
 fn answer_words<L, R>(rt: R, alloc: Global, blanks: Blanks, words: &[String]) -> u8
 where
     L: Kinds + Send + Sync + 'static,

@@ -1,4 +1,4 @@
-//! The checksums and the laying out of records, for C.
+//! The checksums, and the layout of records, for C. A pointer from C must not be null, not even for no bytes.
 #![tactic(auto)]
 
 ghost use Rattle.std.specs.Prelude.{◌≡◌, length};
@@ -27,12 +27,12 @@ pub extern "C" fn foyer_ffi_xxh32(bytes: &[u8]) -> u32
     Checksummer::checksum32(bytes)
 }
 
-/// Lays out records of this value under the keys 0, 1 and so on, in one buffer after another, and
-/// splits each into blocks of 16 MiB with indices of 4 KiB. A buffer has 512 KiB, or 16 MiB for a
-/// value of more than 100 KiB. Gives the bytes that the buffers took, padding included: those of all
-/// records, unless a block has no room for one, an allocation was refused, or they pass `u64::MAX`; then
-/// those of the first of them. C passes a pointer, a length and a number; the memory is its own
-/// `malloc`'s.
+/// Lays out `records` records of this value under the keys 0, 1 and so on. They go into one buffer after another, and each buffer is
+/// split into blocks of 16 MiB with indices of 4 KiB. A buffer has 512 KiB, or 16 MiB if the value has more than 100 KiB.
+///
+/// Gives the bytes of the records, each padded to whole pages. If a block has no room for a record, an allocation is refused, or the
+/// bytes pass `u64::MAX`, gives the bytes of the first few records, or 0. C passes a pointer, a length and a number. Memory is allocated
+/// by C's `malloc`.
 #[unsafe(no_mangle)]
 pub extern "C" fn foyer_ffi_place(alloc: Global, value: &[u8], records: u64) -> u64
     ensures { AreRecords (length value.now) records result }

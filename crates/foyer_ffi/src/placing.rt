@@ -1,4 +1,4 @@
-//! Records of one value, laid out one behind another.
+//! Records of one value, laid out one after another.
 ghost use Rattle.std.specs.Prelude.{◌≡◌, ◌+◌, ◌*◌, ◌^◌, ◌<◌, ◌≤◌, [], length, IfOk, IfErr, OnOk};
 ghost use Rattle.foyer_device_page.specs.declared.error.Error.{Error as error};
 ghost use Rattle.foyer_format_layout.specs.Each.{Each};
@@ -15,7 +15,7 @@ use std::alloc::Global;
 /// The bytes of a block.
 const BLOCK: usize = 16 * 1024 * 1024;
 
-/// The bytes of a buffer of short values: few, since they are cleared once, and the cache keeps them.
+/// The size in bytes of a buffer for short values. It is small, since it is cleared once, and stays in the processor's cache.
 const BUFFER: usize = 512 * 1024;
 
 /// The longest value that such a buffer is for, in bytes.
@@ -27,12 +27,13 @@ const INDEX: usize = 4096;
 /// The most that a record may take with its padding, in bytes.
 const GREATEST: usize = BLOCK - INDEX;
 
-/// Lays out so many records of a value, and gives the bytes that they take with their padding.
+/// Lays out `records` records of a value, and gives the bytes that they take with their padding. If it must stop, gives the bytes of the
+/// first few.
 pub(crate) fn place(alloc: Global, value: &[u8], records: u64) -> u64
     ensures { AreRecords (length value.now) records result }
 {
     let mut taken = 0u64;
-    // The bytes alone tell C how far it came.
+    // C learns from the bytes alone how far the layout got.
     let _ = lay_out(alloc, value, records, &mut taken);
     taken
 }
@@ -70,7 +71,7 @@ fn lay_out(alloc: Global, value: &[u8], records: u64, taken: &mut u64) -> Result
     Ok(())
 }
 
-// The bytes of a buffer for values of this length, which takes a record of them if a block does.
+// The size in bytes of a buffer for values of this length. If a block has room for such a record, the buffer has room for it.
 #[tactic(auto, unfolding(foyer_format_layout::specs::Page::page_up))]
 fn buffer_size(len: usize) -> usize
     ensures room { page_up (record_len len) ≤ greatest → record_len len ≤ result }
@@ -105,7 +106,7 @@ fn fill(buffer: &mut Buffer<Global>, value: &Vec<u8, Global>, first: u64, end: u
     Ok(end)
 }
 
-// Splits what the buffer holds, and gives its pages back to be written again.
+// Splits the buffer's records into blocks. Gives pages for the next buffer: its own again, or new ones.
 fn split(
     alloc: Global,
     ctx: &mut SplitCtx<Global>,

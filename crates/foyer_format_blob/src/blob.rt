@@ -20,7 +20,7 @@ use std::marker::Model;
 /// The bytes of an index's checksum, at its start.
 const CHECKSUM_LEN: usize = 8;
 
-/// Where its count stands.
+/// Where its count begins.
 const COUNT_AT: usize = 8;
 
 /// The bytes of its count.
@@ -117,10 +117,10 @@ impl<A: Allocator> Model for BlobIndex<A> {
 }
 
 impl<A: Allocator> BlobIndex<A> {
-    /// How many bytes the checksum takes, at the index's start. It covers all bytes behind it.
+    /// How many bytes the checksum takes, at the index's start. The checksum covers all bytes after it.
     pub const CHECKSUM_BYTES: usize = CHECKSUM_LEN;
 
-    /// Where the count stands.
+    /// Where the count begins.
     pub const COUNT_OFFSET: usize = COUNT_AT;
 
     /// How many bytes the count takes.
@@ -129,7 +129,7 @@ impl<A: Allocator> BlobIndex<A> {
     /// Where the entries begin.
     pub const INDEX_OFFSET: usize = ENTRIES_AT;
 
-    /// An index without entries over a page buffer, as large as it is.
+    /// An index without entries, as large as the buffer, which has at least a page and at most 2^32 bytes.
     pub fn new(bytes: IoSliceMut<A>) -> BlobIndex<A>
         requires some { 0 < length bytes }
         requires small { length bytes ≤ 2 ^ 32 }
@@ -159,7 +159,7 @@ impl<A: Allocator> BlobIndex<A> {
         self.count >= self.capacity
     }
 
-    /// Writes an entry behind those that were written.
+    /// Appends an entry. The index must not be full.
     pub fn write(&mut self, index: &BlobEntryIndex)
         requires { self.old.count < room_of self.old }
         ensures entries { entries_of self.new ≡ entries_of self.old ++ index.now ∷ [] }
@@ -218,7 +218,7 @@ fn copy_of<A: Allocator>(alloc: A, bytes: &IoSliceMut<A>) -> Result<IoSliceMut<A
     Ok(copy)
 }
 
-// Writes an entry behind the first `count`.
+// Writes an entry after the first `count`.
 #[tactic(auto, using(crate::proofs::BlobLemmas::entry_lemmas))]
 fn write_entry(bytes: &mut [u8], count: usize, index: &BlobEntryIndex)
     requires { 12 + 24 * count + 24 ≤ length bytes.old }
@@ -242,7 +242,7 @@ fn seal_bytes(bytes: &mut [u8], count: usize)
     bytes[..CHECKSUM_LEN].copy_from_slice(&checksum.to_be_bytes());
 }
 
-// The checksum of what lies behind the checksum.
+// The checksum of the bytes after the checksum.
 fn body_sum(bytes: &[u8]) -> u64
     requires { 8 ≤ length bytes.now }
     ensures { result ≡ xxh64 (drop 8 bytes.now) }

@@ -78,7 +78,7 @@ ended_chain s B p q rest sizes ended (goes {es = e ∷ es} is chain) = absurd (e
   | inr full ↦ let room : p + s.index ≤ s.block = is.room in omega (arith, sizes.some, sizes.pages)
 ])
 
--- the chain of a filling comes to where it goes on
+-- the chain of a filling leads to the place where the filling continues
 holds_front : (s : Sizes) (B : ℕ → ℕ) (f : Position) (es : List BlobEntryIndex) → Holds s B f es → Leads s B 0 es (next_of f.listed f)
 holds_front s B f es h = go f.listed refl
   where

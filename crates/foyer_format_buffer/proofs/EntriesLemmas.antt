@@ -50,7 +50,7 @@ pub takes-append : (greatest : ℕ) (is : List BufferEntryInfo) (i : BufferEntry
 takes-append greatest [] i each fits = (fits, tt)
 takes-append greatest (j ∷ is) i each fits = (each.0, takes-append greatest is i each.1 fits)
 
--- the entries take as many bytes as it is said where they stand
+-- packed entries take as many bytes as their infos say
 pub size_taken : (a : List ℕ) (at : ℕ) (is : List BufferEntryInfo) → IsPacked at is → at + taken is ≤ length a → size_of (entries_at a is) ≡ taken is
 size_taken a at [] packed within = size_none ∙ sym taken_none
 size_taken a at (i ∷ is) packed within =
@@ -115,7 +115,7 @@ none_more b old new infos w greatest is packed sum size front =
     ap (λ l. record { entries = l; room = length new; greatest = greatest }) same
     ∙ ap (λ n. record { entries = entries_at old infos; room = n; greatest = greatest }) size ∙ is
 
--- an entry more keeps what holds of where entries stand
+-- one more entry keeps what holds for the places of the entries
 pub keeps : (infos items : List BufferEntryInfo) (i : BufferEntryInfo) (w padded most : ℕ) → items ≡ infos ++ i ∷ []
     → IsPacked 0 infos → taken infos ≡ w → EachTakes most infos → i.offset ≡ w → padded ≡ page_up i.len → padded ≤ most
     → IsPacked 0 items × (taken items ≡ w + padded) × EachTakes most items

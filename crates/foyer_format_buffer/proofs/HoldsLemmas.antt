@@ -99,7 +99,7 @@ holds_fresh s B sizes = record {
 pub holds_index : (s : Sizes) (B : ℕ → ℕ) (f : Position) (es : List BlobEntryIndex) (h : Holds s B f es) → 0 < length f.listed → IsIndex s B all_read f.blob f.listed
 holds_index s B f es h some = record { room = h.room some; came = refl; sealed = h.sealed some; fits = h.fits }
 
--- The chain comes to the filling's end, or to its present blob where that has put nothing.
+-- The chain comes to the filling's end, or to its present blob if nothing was put into that blob.
 holds_leads : (s : Sizes) (B : ℕ → ℕ) (f : Position) (es : List BlobEntryIndex) → Holds s B f es → (q : ℕ) × Leads s B 0 es q
 holds_leads s B f es h = go f.listed refl
   where

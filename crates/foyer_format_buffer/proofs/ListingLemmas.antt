@@ -42,7 +42,7 @@ chain_one s B failed p xs ys q r (goes {es = es} {rest = more} i rest) c =
 pub lists_one : (s : Sizes) (B : ℕ → ℕ) (failed : ℕ → Bool) (xs ys : List BlobEntryIndex) → Lists s B failed xs → Lists s B failed ys → xs ≡ ys
 lists_one s B failed xs ys l m = (chain_one s B failed 0 xs ys l.end m.end l.chain m.chain).0
 
--- where an index stands, the chain goes on
+-- if an index is read at a place, the chain continues after it
 pub chain_step : (s : Sizes) (B : ℕ → ℕ) (failed : ℕ → Bool) (p r : ℕ) (fs all : List BlobEntryIndex) → IsIndex s B failed p fs → Chain s B failed p all r
     → (rest : List BlobEntryIndex) × Chain s B failed (behind s p fs) rest r × (all ≡ placed p fs ++ rest)
 chain_step s B failed p r fs all is (ends none) = absurd (none fs is)

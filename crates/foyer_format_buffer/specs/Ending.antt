@@ -4,7 +4,7 @@ use Rattle.foyer_format_layout.specs.Position.{Sizes, tail_of}
 use Rattle.foyer_format_buffer.specs.Position.{Position}
 use Rattle.foyer_format_blob.specs.declared.blob.BlobEntryIndex.{BlobEntryIndex}
 
--- where the chain goes on behind what a filling has put: at its present blob, or behind its data if that has an index
+-- where the chain continues after what a filling has put: at its present blob, or after that blob's data if the blob has an index
 abbrev pub next_of : List BlobEntryIndex → Position → ℕ
 next_of [] f = f.blob
 next_of (e ∷ es) f = tail_of f

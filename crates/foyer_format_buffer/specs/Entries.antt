@@ -34,14 +34,14 @@ with_entry b hash sequence bytes =
       entries = b.entries ++ record { hash = hash; sequence = sequence; bytes = bytes } ∷ [];
     }
 
--- the entries that stand where these say
+-- the entries that are stored where these say
 abbrev pub entries_at : List ℕ → List BufferEntryInfo → List Entry
 entries_at bytes [] = []
 entries_at bytes (i ∷ is) =
     record { hash = i.hash; sequence = i.sequence; bytes = take i.len (drop i.offset bytes) }
     ∷ entries_at bytes is
 
--- each stands where the one before ends with its padding, the first at this offset
+-- each lies where the one before it ends with its padding; the first lies at this offset
 abbrev pub IsPacked : ℕ → List BufferEntryInfo → Type 0
 IsPacked at [] = Unit {0}
 IsPacked at (i ∷ is) = (i.offset ≡ at) × IsPacked (at + page_up i.len) is
@@ -51,7 +51,7 @@ abbrev pub EachTakes : ℕ → List BufferEntryInfo → Type 0
 EachTakes greatest [] = Unit {0}
 EachTakes greatest (i ∷ is) = (page_up i.len ≤ greatest) × EachTakes greatest is
 
--- The bytes are those of the buffer, its entries stand where these say, and none takes more than it
+-- The bytes are those of the buffer, its entries are stored where these say, and none takes more than it
 -- may.
 pub record IsFinished (b : Entries) (bytes : List ℕ) (infos : List BufferEntryInfo) : Type 0 where
   pub size : length bytes ≡ b.room

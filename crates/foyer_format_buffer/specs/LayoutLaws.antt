@@ -31,13 +31,13 @@ FinishedFits =
     → Each (λ e. 0 < length e.bytes) b.entries
     → All (FitsBlock s) infos × Each (FitsBlock s) infos
 
--- a batch is one block after the other, the first going on where the context was
+-- a batch is one block after the other; the first continues where the context was
 abbrev pub BatchIsBlocks : Type 0 → Type 0
 BatchIsBlocks A =
     (s : Sizes) (whole : Section) (infos : List BufferEntryInfo) (f g : Position) (b : Batch A)
     → IsLaidOut s whole infos f b g → Blocks s whole 0 f infos (map parts_of b.blocks.items) g
 
--- the parts of a block overlap nothing, and their records stand where their indices say
+-- the parts of a block overlap nothing, and their records are stored where their indices say
 abbrev pub BlockIsLaid : Type 0 → Type 0
 BlockIsLaid A =
     (s : Sizes) (whole : Section) (start : ℕ) (f g : Position)

@@ -37,8 +37,8 @@ placed p (e ∷ es) =
     record { hash = e.hash; sequence = e.sequence; offset = p + e.offset; len = e.len }
     ∷ placed p es
 
--- The chain of indices from a place on lists these entries, and ends at a place where no index
--- stands.
+-- The chain of indices from a place on lists these entries. It ends at a place where no index
+-- can be read.
 pub data Chain (s : Sizes) (B : ℕ → ℕ) (failed : ℕ → Bool)
     : ℕ → List BlobEntryIndex → ℕ → Type 0 where
   ends : {p : ℕ} → ((es : List BlobEntryIndex) → IsIndex s B failed p es → ⊥)

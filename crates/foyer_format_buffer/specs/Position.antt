@@ -10,7 +10,7 @@ use Rattle.foyer_format_blob.specs.declared.blob.BlobEntryIndex.{BlobEntryIndex}
 abbrev pub Position : Type 0
 Position = layout.Position BlobEntryIndex
 
--- where a splitter goes on
+-- where a splitter continues
 pub record Context : Type 0 where
   pub sizes : Sizes
   pub filling : Position

@@ -1,4 +1,4 @@
-//! What the block engine keeps on its device, by the paths under which users look for it.
+//! What the block engine keeps on its device, re-exported under the module paths of foyer-storage.
 
 pub mod buffer;
 

@@ -1,5 +1,4 @@
-//! A buffer of entries one behind another, each padded to whole pages, with a list of where they
-//! stand.
+//! A buffer of entries, one after another, each padded to whole pages, with a list of their places.
 ghost use Rattle.std.specs.Prelude.{◌≡◌, ◌+◌, ◌^◌, ◌<◌, ◌≤◌, ◌↔◌, [], length, IsTrue, OnErr, IfOk, IfErr, true};
 ghost use Rattle.std.specs.Bool.{OnTrue, OnFalse};
 ghost use Rattle.foyer_device_page.specs.declared.error.Error.{Error as error};
@@ -47,8 +46,8 @@ impl<A: Allocator> Model for Buffer<A> {
 }
 
 impl<A: Allocator> Buffer<A> {
-    /// An empty buffer over these pages. `max_entry_size` is the most that an entry may take with
-    /// its padding, in bytes.
+    /// An empty buffer over these pages. `max_entry_size`, below 2^32, is the most bytes that an entry
+    /// may take with its padding.
     #[tactic(auto, using(crate::proofs::EntriesLemmas::no_entries))]
     pub fn new(alloc: A, bytes: IoSliceMut<A>, max_entry_size: usize) -> Buffer<A>
         requires { max_entry_size < 2 ^ 32 }
@@ -82,7 +81,7 @@ impl<A: Allocator> Buffer<A> {
 
     /// Appends the record of a key and a value. Gives false if the record doesn't fit, if a code
     /// fails, or if the compression isn't `None`. Error: Memory if an allocation was refused. Unless
-    /// true is answered, the entries stay as they are. Bytes behind them may change.
+    /// the answer is true, the entries stay as they are. Bytes after them may change.
     pub fn push<K: Code<A>, V: Code<A>>(
         &mut self,
         key: &K,
@@ -131,7 +130,7 @@ impl<A: Allocator> Buffer<A> {
     }
 
     /// Appends bytes as they are. Gives false if they don't fit. Error: Memory if an allocation was
-    /// refused. Unless true is answered, the entries stay as they are.
+    /// refused. Unless the answer is true, the entries stay as they are.
     pub fn push_slice(&mut self, slice: &[u8], hash: u64, sequence: Sequence) -> Result<bool>
         ensures pushed { IfOk result (λ done. OnTrue done
             (self.new ≡ with_entry self.old hash sequence slice.now)) }
@@ -165,7 +164,7 @@ impl<A: Allocator> Buffer<A> {
         Ok(true)
     }
 
-    /// Gives the pages, and where the entries stand in them.
+    /// Gives the pages, and the place of each entry in them.
     pub fn finish(self) -> (IoSliceMut<A>, Vec<BufferEntryInfo, A>)
         ensures { IsFinished self result.0 result.1.items }
     {
@@ -178,7 +177,9 @@ impl<A: Allocator> Buffer<A> {
         (bytes, entry_infos)
     }
 
-    /// The buffer that was finished, with all that it had, to be filled further.
+    /// Makes a buffer again of what `finish` gave. `written` is how many bytes the entries take with
+    /// their padding. `entry_limit`, below 2^32, is the most that an entry may take, including
+    /// the present ones.
     pub fn resume(
         bytes: IoSliceMut<A>,
         entry_infos: Vec<BufferEntryInfo, A>,

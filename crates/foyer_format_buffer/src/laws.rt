@@ -1,53 +1,53 @@
-//! What holds of every placing, for whoever writes blocks and reads them again.
+//! What holds of every layout of records in blocks, for whoever writes blocks and reads them again.
 ghost use Rattle.foyer_format_buffer.specs.BlobVectors.{EntryVector, CapacityVector, KeptVector};
 ghost use Rattle.foyer_format_buffer.specs.LayoutLaws.{OneList, FinishedFits, BatchIsBlocks, BlockIsLaid, RecordsAreEntries, FreshHolds, WrittenHolds, HeldIsListed, WrittenEnds};
 
 use std::alloc::Allocator;
 
-/// A block lists one list at most.
+/// A block's bytes, and which of its reads failed, determine what the block lists.
 pub fn one_list()
     ensures { OneList }
 {}
 
-/// What a buffer has finished may be split.
+/// What a finished buffer gives can be split, if no entry is empty and a block has room for an index and the largest entry.
 pub fn finished_fits()
     ensures { FinishedFits }
 {}
 
-/// A batch is one block after the other.
+/// A batch fills one block after the other, the first from where the context was.
 pub fn batch_is_blocks<A: Allocator>()
     ensures { BatchIsBlocks A }
 {}
 
-/// In one filling of a block no two parts' data overlap, none overlaps an index, and every write
-/// falls behind what is there or into the present blob's index; after a block's writes, over any
-/// bytes, each record stands at its offset, untouched by later writes.
+/// In one filling of a block, no two parts' data overlap, and no data overlap an index. Every write
+/// is after what is there, or in the present blob's index. After a block's writes, whatever its bytes
+/// were, each record is at its offset. Later writes of the filling don't touch the record's pages.
 pub fn block_is_laid<A: Allocator>()
     ensures { BlockIsLaid A }
 {}
 
-/// The records of a batch that stand in blocks are the entries of the buffer that it came from.
+/// The records that a batch has in its blocks are the entries of the buffer from which the batch was split.
 pub fn records_are_entries()
     ensures { RecordsAreEntries }
 {}
 
-/// A new filling of a block holds nothing, whatever its bytes are.
+/// A new filling of a block holds nothing, whatever the block's bytes are.
 pub fn fresh_holds()
     ensures { FreshHolds }
 {}
 
-/// Once the parts of a block are written, it holds their records behind what it held.
+/// Once the parts of a block are written, the block holds their records after what it held.
 pub fn written_holds<A: Allocator>()
     ensures { WrittenHolds A }
 {}
 
-/// A block lists first what it holds, in order; what stale bytes list comes behind.
+/// A block lists first what it holds, in order, and then what stale bytes list.
 pub fn held_is_listed()
     ensures { HeldIsListed }
 {}
 
-/// A block into which records were just written lists what its filling put, and nothing that stood there before: a page of
-/// zeros behind its records ends the list, or the block's end does.
+/// A block into which records were just written lists what its filling put, and nothing that older bytes list. A page of
+/// zeros after the records, or the block's end, ends the list.
 pub fn written_ends<A: Allocator>()
     ensures { WrittenEnds A }
 {}

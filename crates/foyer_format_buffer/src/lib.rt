@@ -1,5 +1,5 @@
 //! A flush's records in memory and over blocks: the buffer that they are written into, and the splitter that lays them
-//! out over blocks, blobs and parts. A blob's index is `foyer_format_blob`'s, under its names here too.
+//! out over blocks, blobs and parts. A blob's index is re-exported from `foyer_format_blob`.
 #![tactic(auto)]
 
 ghost use Rattle.std.specs.Prelude.{◌≡◌, ◌<◌, ◌^◌};
@@ -20,7 +20,7 @@ pub use foyer_format_blob as format_blob;
 pub use foyer_format_blob::{BlobEntryIndex, BlobIndex, BlobIndexReader};
 pub use split::{Batch, BlobPart, Block, SplitCtx, Splitter};
 
-/// Where a record stands in a buffer: its first byte, and its length without the padding.
+/// Where a record is in a buffer: its first byte, and its length without the padding.
 #[derive(Clone, Copy, Debug)]
 pub struct BufferEntryInfo {
     /// The hash of its key.

@@ -37,7 +37,7 @@ impl<A: Allocator> Write for Pages<A> {
     }
 }
 
-// What stays while it is written into is the length of the pages.
+// The `borrow` of this writer is the length of the pages, which no write changes.
 impl<A: Allocator> Sink for Pages<A> {
     ghost room = { λ s. Some (length s.bytes - s.written) };
 
@@ -68,7 +68,7 @@ impl<A: Allocator> Pages<A> {
         self.bytes.len() - self.written
     }
 
-    // Writes bytes behind what was written, without counting them.
+    // Writes bytes after what was written, without counting them.
     pub(super) fn put_slice(&mut self, slice: &[u8])
         requires { self.old.written + length slice.now ≤ length self.old.bytes }
         ensures size { length self.new.bytes ≡ length self.old.bytes }
@@ -81,8 +81,8 @@ impl<A: Allocator> Pages<A> {
         self.bytes.as_mut_slice()[self.written..end].copy_from_slice(slice);
     }
 
-    // Writes a record behind what was written, without counting it. Gives false if a code fails.
-    // The header's place is filled last.
+    // Writes a record after what was written, without counting it. Gives false if a code fails.
+    // The header is written last.
     pub(super) fn put_record<K: Code<A>, V: Code<A>>(
         &mut self,
         key: &K,
@@ -134,7 +134,7 @@ impl<A: Allocator> Pages<A> {
     }
 }
 
-// Writes the header of the record from `start` to `end`; its value and key stand there already.
+// Writes the header of the record from `start` to `end`. The record's value and key are there already.
 fn seal(
     bytes: &mut [u8],
     start: usize,

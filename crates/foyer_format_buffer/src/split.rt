@@ -1,4 +1,4 @@
-//! What a flush writes: blocks, their parts, and where the next flush goes on.
+//! What a flush writes: blocks, their parts, and where the next flush continues.
 ghost use Rattle.std.specs.Prelude.{◌≡◌, ◌<◌, ◌≤◌, ◌%◌, ◌^◌, length, All, IfOk, IfErr, OnErr};
 ghost use Rattle.foyer_device_page.specs.declared.error.Error.{Error as error};
 ghost use Rattle.foyer_device_page.specs.Section.{bytes_of};
@@ -28,8 +28,8 @@ pub struct BlobPart<A: Allocator> {
     pub indices: Vec<BlobEntryIndex, A>,
 }
 
-/// What goes into one block, in the order in which it is written: of each part its data, and then
-/// its index.
+/// What goes into one block, in the order in which it is written: for each part, the part's data
+/// and then its index.
 #[derive(Debug, PartialEq, Eq, Drop)]
 pub struct Block<A: Allocator> {
     pub blob_parts: Vec<BlobPart<A>, A>,
@@ -38,13 +38,13 @@ pub struct Block<A: Allocator> {
 /// What one flush writes.
 #[derive(Debug, PartialEq, Eq, Drop)]
 pub struct Batch<A: Allocator> {
-    /// At least one; the first goes on in the block of the flush before.
+    /// At least one. The first is the block in which the context was, and may have no part.
     pub blocks: Vec<Block<A>, A>,
-    /// The bytes of all records.
+    /// The bytes that were split, with those of all records.
     pub bytes: IoSlice<A>,
 }
 
-/// Where a splitter goes on: in which blob of a block, behind which data, with which index.
+/// Where a splitter continues: in which blob of a block, after which data, with which index.
 #[derive(Drop)]
 pub struct SplitCtx<A: Allocator> {
     current_part_blob_offset: usize,
@@ -85,8 +85,9 @@ impl<A: Allocator> SplitCtx<A> {
     ghost use Rattle.foyer_format_blob.specs.Blob.{capacity_of};
     ghost use Rattle.foyer_format_buffer.specs.Splitting.{IsBegun, sizes_of, position_of};
 
-    /// Begins at the start of a block, with an index without entries. Error: Memory if memory was
-    /// refused.
+    /// Begins at the start of a block, with an index without entries. Both sizes are whole pages. The
+    /// index has a page or more and is smaller than the block, which has at most 2^32 bytes. Error:
+    /// Memory if memory was refused.
     #[tactic(auto, using(foyer_format_layout::proofs::PageLaws::pages))]
     pub fn new(alloc: A, block_size: usize, blob_index_size: usize) -> Result<SplitCtx<A>>
         requires block_pages { block_size % 4096 ≡ 0 }
@@ -108,7 +109,7 @@ impl<A: Allocator> SplitCtx<A> {
         })
     }
 
-    /// At the start of a block again, with an index without entries. It takes no memory.
+    /// Goes to the start of a block, with an index without entries. It takes no memory.
     pub fn reset(&mut self)
         ensures { self.new ≡ fresh_context self.old.sizes }
     {
@@ -145,7 +146,7 @@ impl<A: Allocator> SplitCtx<A> {
         })
     }
 
-    // Goes on where the split has come to, and gives its blocks.
+    // Moves the context to the position at which the split ended, and gives the split's blocks.
     fn commit(&mut self, split: SplitProgress<A>) -> Vec<Block<A>, A>
         requires sizes { sizes_of split ≡ self.old.sizes }
         requires open { split.index.count < capacity_of split.index_size }
@@ -174,9 +175,9 @@ impl Splitter {
     ghost use Rattle.foyer_format_buffer.specs.Layout.{IsLaidOut};
 
     /// Places the records of a batch, in their order, into parts of blobs and blocks. Begins where
-    /// the context is, and moves the context behind the records. The parts share the batch's bytes,
-    /// which begin with the first record. Error: Memory if an allocation was refused. Then the
-    /// context stays as it was.
+    /// the context is, and moves the context to the end of the records. Each record must have bytes
+    /// and fit an empty block. The parts share the batch's bytes, which begin with the first record.
+    /// Error: Memory if an allocation was refused. Then the context stays as it was.
     pub fn split<A: Allocator + Clone>(
         alloc: &A,
         ctx: &mut SplitCtx<A>,

@@ -96,7 +96,7 @@ impl<A: Allocator + Clone> SplitProgress<A> {
         Ok(())
     }
 
-    // Begins the next blob, behind the present one.
+    // Begins the next blob, after the present one.
     fn next_blob(&mut self)
         requires full { self.old.index.count ≡ capacity_of self.old.index_size }
         requires size { self.old.size ≡ 0 }

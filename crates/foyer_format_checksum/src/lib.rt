@@ -9,7 +9,7 @@ ghost use Rattle.foyer_format_checksum.specs.Vectors.{Xxh64Vectors, Xxh32Vectors
 mod xxh32;
 mod xxh64;
 
-/// Checksums of bytes. Neither takes memory or is ever refused.
+/// Checksums of bytes. They take no memory and never fail.
 pub struct Checksummer;
 
 impl Checksummer {

@@ -19,7 +19,7 @@ pub use unsigned::{
     u8_read_back, u16_read_back, u32_read_back, u64_read_back, u128_read_back, usize_read_back,
 };
 
-// The bytes, if they are exactly as many.
+// The bytes, if they are exactly `N`. Error: Parse if they aren't.
 fn exactly<const N: usize>(bytes: &[u8]) -> Result<[u8; N]>
     ensures { MatchResult result (λ all. (all ≡ bytes.now) × (length bytes.now ≡ N))
         (λ e. (e ≡ Parse) × (length bytes.now ≢ N)) }

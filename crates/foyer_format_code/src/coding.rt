@@ -20,7 +20,7 @@ pub trait Code<A: Allocator> {
     // Whether the value can be encoded.
     ghost is_encodable: { Self → Bool };
 
-    // Some value is encoded so.
+    // Whether some value has this encoding.
     ghost is_decodable: { List ℕ → Bool };
 
     // The two values are the same, whatever memory they lie in.
@@ -29,7 +29,7 @@ pub trait Code<A: Allocator> {
     // Decoding these bytes takes memory, which may be refused.
     ghost takes_memory: { List ℕ → Type 0 };
 
-    /// Writes the value's bytes. An error is the writer's, or comes of a value that can't be
+    /// Writes the value's bytes. An error is the writer's, or means that the value can't be
     /// encoded. After an `Err` some of the bytes may have been written.
     fn encode_into<W: Sink>(&self, writer: &mut W) -> Result<()>
         ensures bytes { OnOk result
@@ -63,8 +63,8 @@ pub trait Code<A: Allocator> {
         self.encode_into(&mut lent)
     }
 
-    /// Gives the value that the bytes encode, all of the bytes. Errors: Parse if they decode to none,
-    /// Memory if an allocation was refused.
+    /// Gives the value whose encoding is all of these bytes. Errors: Parse if there is none, Memory if
+    /// an allocation was refused.
     fn decode(alloc: A, bytes: &[u8]) -> Result<Self>
     where
         Self: Sized,
@@ -79,17 +79,17 @@ pub trait Code<A: Allocator> {
     fn estimated_size(&self) -> usize
         ensures { is_encodable self.now ≡ true → result ≡ min (length (encoding self.now)) (2 ^ 64 - 1) };
 
-    // What a value is encoded as is an encoding.
+    // The encoding of a value that can be encoded is decodable.
     ghost is_encoded: { (v : Self) → is_encodable v ≡ true → is_decodable (encoding v) ≡ true };
 
     // Bytes encode one value at most.
     ghost one_value: { (v w : Self) → is_encodable v ≡ true → is_encodable w ≡ true → encoding v ≡ encoding w → same v w };
 
-    // A value whose encoding is one can be encoded.
+    // A value whose encoding is decodable can be encoded.
     ghost coded: { (v : Self) → is_decodable (encoding v) ≡ true → is_encodable v ≡ true };
 }
 
-// A writer that is lent for one encoding, and counts.
+// A writer that is borrowed for one encoding, and that counts the bytes written.
 #[derive(Drop)]
 struct Lent<'a, W: Write> {
     inner: &'a mut W,

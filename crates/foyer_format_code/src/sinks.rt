@@ -10,7 +10,7 @@ use std::io;
 use std::io::Write;
 
 /// A writer that counts its bytes. If its room is known, only a lack of room makes it fail. So a
-/// caller can tell its failure from that of a code.
+/// caller can tell the writer's failure from a code's.
 pub trait Sink: Write {
     // How many bytes it surely takes, if that is known.
     ghost room: { Self → Option ℕ };
@@ -18,8 +18,8 @@ pub trait Sink: Write {
     // How many bytes it has taken.
     ghost taken: { Self → ℕ };
 
-    // The borrow that it writes through, which stays. It is 0 if the writer owns what it writes
-    // into.
+    // The borrow that the writer writes through, which never changes. It is 0 if the writer owns
+    // what it writes into.
     ghost borrow: { Self → ℕ };
 
     /// How many bytes it has taken, at most `usize::MAX`.
@@ -41,7 +41,7 @@ pub trait Sink: Write {
         ensures borrow { borrow self.new ≡ borrow self.old };
 }
 
-/// A writer that counts the bytes it takes. At `usize::MAX` the count stays.
+/// A writer that counts the bytes it takes. The count stops at `usize::MAX`.
 #[derive(Drop)]
 pub struct TrackedWriter<W> {
     inner: W,

@@ -25,6 +25,6 @@ fresh s = record { blob = 0; at = s.index; listed = [] }
 abbrev pub next_blob : {E : Type 0} → Sizes → Position E → Position E
 next_blob s f = record { blob = tail_of f; at = s.index; listed = [] }
 
--- where later writes of a filling may fall: at or behind its tail, or into the index of its present blob
+-- where later writes of a filling may fall: at or after its tail, or into the index of its present blob
 abbrev pub MayWrite : {E : Type 0} → (index_size : ℕ) → Position E → ℕ → Type 0
 MayWrite index_size f o = (tail_of f ≤ o) ⊎ ((f.blob ≤ o) × (o < f.blob + index_size))

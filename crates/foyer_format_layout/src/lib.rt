@@ -1,3 +1,3 @@
-//! How bytes lie in a block: writes laid over what stood there, how far a block is filled, and whole pages. Definitions and
-//! what holds of them; nothing here is run.
+//! How bytes lie in a block: what writes leave of its bytes, how far a block is filled, and whole pages. Only definitions
+//! and their laws: nothing here is run.
 #![tactic(auto)]

@@ -8,7 +8,7 @@ use Rattle.foyer_format_record.specs.Record.{Outcome, outcome_of}
 use Rattle.foyer_format_record.specs.Record.{Outcome as outcome}
 use Rattle.foyer_format_record.specs.Refusals.{IsEntryFault, ReachesCodes, ReachesPair, IsRecordFault}
 
--- a code's refusal, where the codes were reached and every refusal but for memory is a fault
+-- a code's refusal, if the codes were reached and every refusal except for memory is a fault
 pub decode_fault : (fault : Option Error) (e : Error) → IsDecodeFault e → ReachesCodes fault
     → (e ≢ error.Memory → fault ≡ Some error.Parse) → IsEntryFault fault e
 decode_fault fault error.Memory kind reached other = reached
@@ -42,7 +42,7 @@ reaches_pair o key value (Some error.Recover) is reached = absurd reached
 reaches_pair o key value (Some error.Closed) is reached = absurd reached
 reaches_pair o key value (Some error.SequenceEnd) is reached = absurd reached
 
--- an entry's refusal is a record's, but for those of an entry that is no record at all
+-- an entry's refusal is a record's, except those of an entry that is no record at all
 pub record_fault : (o : Outcome) (key value : List ℕ) (fault : Option Error) (e : Error) → o ≡ outcome_of key value fault
     → IsEntryFault fault e → e ≢ error.OutOfRange → e ≢ error.ChecksumMismatch → IsRecordFault o e
 record_fault o key value fault error.Memory is entry a b = reaches_pair o key value fault is entry

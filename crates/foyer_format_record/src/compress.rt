@@ -11,9 +11,9 @@ use foyer_format_code::device_page::error::{Error, Result};
 pub enum Compression {
     /// Plain bytes.
     None,
-    /// Read, never written, and not undone.
+    /// Recognized in a header. This engine neither writes it nor undoes it.
     Zstd,
-    /// Read, never written, and not undone.
+    /// Recognized in a header. This engine neither writes it nor undoes it.
     Lz4,
 }
 
@@ -62,7 +62,7 @@ impl TryFrom<u8> for Compression {
     }
 }
 
-/// Each compression is what its byte names.
+/// Each compression reads back from its byte.
 #[tactic(auto, using(crate::proofs::CompressionLemmas::compression_again))]
 pub fn compression_read_back()
     ensures { (c : Compression) → compression_of (byte_of c) ≡ Ok c }

@@ -1,4 +1,4 @@
-//! Keys and values as bytes, and the bytes of an entry. The codes are `foyer_format_code`'s, under their names here too.
+//! Keys and values as bytes, and the bytes of an entry. The codes are re-exported from `foyer_format_code`.
 
 mod ages;
 mod entries;

@@ -190,7 +190,7 @@ body_places : (h : Head) (body key rest value last : List ℕ) → ltb (length b
     → body_at h body ≡ Ok (with_head h key value, last)
 body_places h body key rest value last long ek er ev el = rw (long, ek, er, ev, el) refl
 
--- where the parts of a frame stand in the buffer
+-- where the parts of a frame lie in the buffer
 pub places : (limits : Limits) (xs : List ℕ) (start end : ℕ) (h : Head) → start ≤ end → end ≤ length xs → head_at limits (slice_range xs start end) ≡ Ok h → h.key_len + h.value_len ≤ end - start - 13
     → request_at limits (slice_range xs start end) ≡ Ok (with_head h (slice_range xs (start + 13) (start + 13 + h.key_len)) (slice_range xs (start + 13 + h.key_len) (start + 13 + h.key_len + h.value_len)), slice_range xs (start + 13 + h.key_len + h.value_len) end)
 places limits xs start end h ordered within eh fits =

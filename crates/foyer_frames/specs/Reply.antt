@@ -6,7 +6,7 @@ use Rattle.foyer_frames.specs.declared.request.Fault.TheVariants.{Short, ValueTo
 use Rattle.foyer_frames.specs.declared.reply.Reply.{Reply}
 use Rattle.foyer_frames.specs.Numbers.{number_bytes, number_at}
 
--- a reply without where it lies in memory
+-- a reply without its place in memory
 pub record Answer : Type 0 where
   pub number : ℕ
   pub code : ℕ

@@ -10,7 +10,7 @@ use Rattle.foyer_frames.specs.declared.request.Request.{Request}
 use Rattle.foyer_frames.specs.Kind.{kind_byte, kind_of, has_key, has_value}
 use Rattle.foyer_frames.specs.Numbers.{◌>>=◌, number_bytes, number_at}
 
--- a request without where it lies in memory
+-- a request without its place in memory
 pub record Asked : Type 0 where
   pub kind : Kind
   pub number : ℕ

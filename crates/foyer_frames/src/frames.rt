@@ -9,21 +9,21 @@ use std::alloc::{AllocError, Allocator};
 use std::io;
 use std::io::Read;
 
-/// What stands next in a stream.
+/// What `next` found.
 #[derive(Clone, Copy, Debug, PartialEq, Eq)]
 pub enum Next {
     /// A request.
     Request(Head),
-    /// What is no frame within the limits. The stream stays where it is: behind a broken frame none can be found.
+    /// The bytes are no frame within the limits. The stream stays where it is: after a broken frame no other frame can be found.
     Refused(Fault),
-    /// The end of the stream, behind a whole frame.
+    /// The stream has ended, and all of its bytes were taken.
     End,
-    /// The end of the stream, within a frame.
+    /// The stream has ended within a frame.
     Cut,
 }
 
-/// A reader's requests. It keeps what it read in a buffer of 64 KiB. If a frame is longer, the buffer grows, up to a frame of the
-/// limits.
+/// A reader's requests. The bytes that were read are in a buffer of 64 KiB. If a frame is longer, the buffer grows, at most to the
+/// longest frame within the limits.
 pub struct Frames<R: Read + Drop, A: Allocator> {
     input: R,
     window: Window<A>,
@@ -42,7 +42,7 @@ impl<R: Read + Drop, A: Allocator> Drop for Frames<R, A> {
 impl<R: Read + Drop, A: Allocator> Frames<R, A> {
     ghost use Rattle.foyer_frames.specs.Stream.{Fills, Finds, Takes, buffer_len, buffered, last_key, last_value, limits_of, unread};
 
-    /// Gives the requests of a reader, of which nothing is read yet. Error: `AllocError` if there is no memory for 64 KiB.
+    /// Gives the requests of a reader. Nothing is read yet. Errors: `AllocError` if there is no memory for 64 KiB.
     pub fn new(alloc: A, input: R, limits: Limits) -> Result<Frames<R, A>, AllocError>
         ensures limits { IfOk result (λ f. limits_of f ≡ limits) }
         ensures unread { IfOk result (λ f. Keeps (R.remaining input) (unread R.remaining f)) }
@@ -53,7 +53,7 @@ impl<R: Read + Drop, A: Allocator> Frames<R, A> {
         })
     }
 
-    /// The bytes of the buffer, at most 64 KiB or a frame of the limits, whichever is more.
+    /// Gives the buffer's length in bytes. It is at most 64 KiB or the longest frame within the limits, whichever is more.
     pub fn buffer_len(&self) -> usize
         ensures len { result ≡ buffer_len self.now }
         ensures bound { result ≤ max 65536 (13 + ((limits_of self.now).key + (limits_of self.now).value)) }
@@ -84,8 +84,8 @@ impl<R: Read + Drop, A: Allocator> Frames<R, A> {
         self.window.value()
     }
 
-    /// Reads more if what was read is less than a frame. An error is the reader's, or `OutOfMemory` if the buffer can't grow.
-    /// Nothing is lost by an error, and the call may be made again.
+    /// Reads more if the bytes that were read and not taken are less than a frame. An error is the reader's, or `OutOfMemory` if the
+    /// buffer can't grow. An error loses nothing, and the call may be made again.
     pub fn fill(&mut self) -> io::Result<Filled>
         ensures filled { IfOk result (λ f. Fills (limits_of self.old) (buffered self.old) f (buffered self.new) (R.remaining self.new.input)) }
         ensures front { (more : List ℕ) × (buffered self.new ≡ buffered self.old ++ more) }
@@ -107,11 +107,11 @@ impl<R: Read + Drop, A: Allocator> Frames<R, A> {
         }
     }
 
-    /// What stands next in the stream, for which it is read on as far as needed. Errors as those of `fill`.
+    /// Takes the next request of the stream, and reads as much as that needs. Errors: those of `fill`. An error loses nothing.
     pub fn next(&mut self) -> io::Result<Next>
         ensures found { IfOk result (λ n. IfSome (unread R.remaining self.old)
             (λ bytes. Finds (limits_of self.old) bytes n (last_key self.new) (last_value self.new) (unread R.remaining self.new))) }
-        // The same holds of what was held and was read, if the input's bytes aren't known.
+        // Even if the input's bytes aren't known, the same holds of the bytes held before and the bytes that were read.
         ensures read { IfOk result (λ n. (more : List ℕ)
             × Finds (limits_of self.old) (buffered self.old ++ more) n (last_key self.new) (last_value self.new) (Some (buffered self.new))) }
         ensures err { OnErr result (Keeps (unread R.remaining self.old) (unread R.remaining self.new)) }

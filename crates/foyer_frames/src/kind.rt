@@ -11,9 +11,9 @@ pub enum Kind {
     Get,
     /// `d`: delete a key.
     Delete,
-    /// `h`: whether the cache has a key.
+    /// `h`: ask whether the cache has a key's hash.
     Contains,
-    /// `w`: wait until what was put is written.
+    /// `w`: wait until what was put is written or given up.
     Wait,
     /// `c`: the counters, by their names.
     Counters,
@@ -24,7 +24,7 @@ pub enum Kind {
 }
 
 impl Kind {
-    /// The kind that a byte stands for. None for any other byte.
+    /// Gives the kind whose letter the byte is. `None` if it is no kind's letter.
     pub fn of_byte(byte: u8) -> Option<Kind>
         ensures { result ≡ kind_of byte }
     {
@@ -41,7 +41,7 @@ impl Kind {
         }
     }
 
-    /// The byte that stands for the kind.
+    /// Gives the kind's letter as a byte.
     pub fn byte(self) -> u8
         ensures { result ≡ kind_byte self }
     {

@@ -9,21 +9,21 @@ use crate::request::Fault;
 use std::io;
 use std::io::Write;
 
-/// The bytes that a reply has before its bytes: its number, its code, its length.
+/// The length of a reply's head in bytes: its number, its code, the length of its bytes.
 pub const REPLY_LEN: usize = 9;
 
-/// A reply, with its bytes where its frame lies.
+/// A reply. Its bytes are borrowed from those of its frame.
 #[derive(Clone, Copy, Debug, PartialEq, Eq)]
 pub struct Reply<'a> {
     /// The number of the request that is answered.
     pub number: u32,
-    /// What came of it: the program's codes, of which the frame says nothing.
+    /// The outcome of the request, as one of the program's codes. The frame says nothing about these codes.
     pub code: u8,
-    /// What the code tells of: a value, or the counters.
+    /// The bytes that belong to the code: a value, or the counters.
     pub bytes: &'a [u8],
 }
 
-// What stands before a reply's bytes.
+// A reply's head.
 fn reply_head(number: u32, code: u8, len: u32) -> [u8; REPLY_LEN]
     ensures { result ≡ number_bytes number ++ code ∷ number_bytes len }
 {
@@ -34,7 +34,7 @@ fn reply_head(number: u32, code: u8, len: u32) -> [u8; REPLY_LEN]
     ]
 }
 
-// The reply at the front of the bytes, and the bytes behind its frame.
+// The reply at the front of the bytes, and the bytes after its frame.
 #[tactic(auto, unfolding(crate::specs::Reply::reply_at))]
 fn read_reply<'a>(bytes: &'a [u8], limit: u32) -> Result<(Reply<'a>, &'a [u8]), Fault>
     ensures { Reads (λ x. (answer x.0, x.1.now)) result (reply_at limit bytes.now) }
@@ -60,26 +60,26 @@ fn read_reply<'a>(bytes: &'a [u8], limit: u32) -> Result<(Reply<'a>, &'a [u8]), 
 }
 
 impl<'a> Reply<'a> {
-    /// Reads the reply at the front of the bytes. The second part is what stands behind its frame. More than `limit` bytes in the
-    /// reply are `ValueTooLong`.
+    /// Reads the reply at the front of the bytes. Gives it and the bytes after its frame. Errors: `ValueTooLong` if the reply says that
+    /// it has more than `limit` bytes, `Short` if the frame isn't whole.
     pub fn decode(bytes: &'a [u8], limit: u32) -> Result<(Reply<'a>, &'a [u8]), Fault>
-        // What is read is a frame within the limit, and then the rest.
+        // If a reply is read, the bytes are its frame, within the limit, and then the rest.
         ensures found { IfOk result (λ x. Fits limit (answer x.0) × (bytes.now ≡ reply_bytes (answer x.0) ++ x.1.now)) }
-        // What begins with the frame of a reply within the limit is read as that reply, and that rest.
+        // Bytes that begin with the frame of a reply within the limit are read as that reply and the rest.
         ensures only { (r : Answer) (rest : List ℕ) → Fits limit r → bytes.now ≡ reply_bytes r ++ rest
             → IsReadAs result r rest }
-        // Which fault it is.
+        // The fault is the one that the definition `reply_at` gives.
         ensures exact { Reads (λ x. (answer x.0, x.1.now)) result (reply_at limit bytes.now) }
     {
         read_reply(bytes, limit)
     }
 
-    /// Writes the reply's frame. More than `u32::MAX` bytes are `InvalidInput`, and nothing is written; any other error is the
-    /// writer's, which may have taken a part of the frame.
+    /// Writes the reply's frame. Errors: `InvalidInput` if it has more than `u32::MAX` bytes. Then nothing is written. If the writer
+    /// fails, the error is the writer's, and it may have taken a part of the frame.
     pub fn write_to<W: Write>(&self, output: &mut W) -> io::Result<()>
         ensures written { OnOk result
             (Appends (W.contents output.old) (W.contents output.new) (reply_bytes (answer self.now))) }
-        // So that it is read again, under that limit.
+        // A reply that is written is within the limit of `u32::MAX` bytes, so it can be read again.
         ensures fits { OnOk result (length (self.now.bytes).now < 2 ^ 32) }
         ensures unsent { 2 ^ 32 ≤ length (self.now.bytes).now → Keeps (W.contents output.old) (W.contents output.new) }
     {
@@ -91,7 +91,8 @@ impl<'a> Reply<'a> {
     }
 }
 
-/// What is written is read again, whatever follows it; and the frame of no reply begins the frame of another one.
+/// Does nothing; its contract is a law of frames within a limit. A reply's frame is read as that reply, whatever follows. No reply's
+/// frame is the beginning of another reply's frame.
 pub fn one_reading()
     ensures again { (limit : ℕ) (r : Answer) (rest : List ℕ) → Fits limit r
         → reply_at limit (reply_bytes r ++ rest) ≡ Ok (r, rest) }

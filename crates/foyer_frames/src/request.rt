@@ -11,7 +11,7 @@ use crate::number::number;
 use std::io;
 use std::io::Write;
 
-/// The bytes that a request's head has: its kind, its number, the lengths of its key and of its value.
+/// The length of a request's head in bytes: its kind, its number, the lengths of its key and of its value.
 pub const HEAD_LEN: usize = 13;
 
 /// The most bytes that a key and a value may have.
@@ -24,7 +24,7 @@ pub struct Limits {
 }
 
 impl Limits {
-    /// The limits of the frames themselves: all that four bytes of length can say.
+    /// The widest limits: the greatest lengths that the four bytes of a length can hold.
     pub const WIDEST: Limits = Limits {
         key: u32::MAX,
         value: u32::MAX,
@@ -45,12 +45,12 @@ impl Limits {
     }
 }
 
-/// Why bytes are no frame: the first fault from left to right.
+/// Why bytes are no frame. Fewer bytes than a head has are `Short`, whatever they are. Else this is the first fault from left to right.
 #[derive(Clone, Copy, Debug, PartialEq, Eq)]
 pub enum Fault {
-    /// Less than a head, or than the frame that the head tells of. More bytes may follow.
+    /// The bytes are fewer than a head has, or than the frame that the head begins. More bytes may follow.
     Short,
-    /// The first byte is no kind's.
+    /// The first byte is no kind's letter.
     UnknownKind,
     /// The key is longer than the limit.
     KeyTooLong,
@@ -89,7 +89,7 @@ fn value_fault_of(kind: Kind) -> Fault
 pub struct Head {
     /// What is asked for.
     pub kind: Kind,
-    /// The caller's own number for the request: its reply carries it.
+    /// The caller's own number for the request. The reply carries this number, too.
     pub number: u32,
     /// The length of the key in bytes.
     pub key_len: u32,
@@ -98,8 +98,7 @@ pub struct Head {
 }
 
 impl Head {
-    /// Reads the head at the front of the bytes. Whatever the bytes are, what is returned is what the definition says: the head,
-    /// or the first fault.
+    /// Reads the head at the front of the bytes. The key and the value needn't be there yet. Errors: the head's `Fault`.
     pub fn decode(bytes: &[u8], limits: Limits) -> Result<Head, Fault>
         ensures { result ≡ head_at limits bytes.now }
     {
@@ -125,12 +124,12 @@ impl Head {
     }
 }
 
-/// A request, with its key and its value where its frame lies.
+/// A request. Its key and its value are borrowed from the bytes of its frame.
 #[derive(Clone, Copy, Debug, PartialEq, Eq)]
 pub struct Request<'a> {
     /// What is asked for.
     pub kind: Kind,
-    /// The caller's own number for the request: its reply carries it.
+    /// The caller's own number for the request. The reply carries this number, too.
     pub number: u32,
     /// The key's bytes. They are empty if the kind has no key.
     pub key: &'a [u8],
@@ -138,7 +137,7 @@ pub struct Request<'a> {
     pub value: &'a [u8],
 }
 
-// What stands before a request's key.
+// A request's head.
 fn request_head(kind: Kind, number: u32, keys: u32, values: u32) -> [u8; HEAD_LEN]
     ensures { result ≡ kind_byte kind ∷ (number_bytes number ++ (number_bytes keys ++ number_bytes values)) }
 {
@@ -162,7 +161,7 @@ fn request_head(kind: Kind, number: u32, keys: u32, values: u32) -> [u8; HEAD_LE
     ]
 }
 
-// The request at the front of the bytes, and the bytes behind its frame.
+// The request at the front of the bytes, and the bytes after its frame.
 #[tactic(auto, unfolding(crate::specs::Request::request_at))]
 fn read_request<'a>(bytes: &'a [u8], limits: Limits) -> Result<(Request<'a>, &'a [u8]), Fault>
     ensures { Reads (λ x. (asked x.0, x.1.now)) result (request_at limits bytes.now) }
@@ -184,26 +183,26 @@ fn read_request<'a>(bytes: &'a [u8], limits: Limits) -> Result<(Request<'a>, &'a
 }
 
 impl<'a> Request<'a> {
-    /// Reads the request at the front of the bytes. The second part is what stands behind its frame.
+    /// Reads the request at the front of the bytes. Gives it and the bytes after its frame. Errors: the first `Fault` of the bytes.
     pub fn decode(bytes: &'a [u8], limits: Limits) -> Result<(Request<'a>, &'a [u8]), Fault>
-        // What is read is a frame within the limits, and then the rest.
+        // If a request is read, the bytes are its frame, within the limits, and then the rest.
         ensures found { IfOk result (λ x. Fits limits (asked x.0) × (bytes.now ≡ request_bytes (asked x.0) ++ x.1.now)) }
-        // What begins with the frame of a request within the limits is read as that request, and that rest.
+        // Bytes that begin with the frame of a request within the limits are read as that request and the rest.
         ensures only { (r : Asked) (rest : List ℕ) → Fits limits r → bytes.now ≡ request_bytes r ++ rest
             → IsReadAs result r rest }
-        // Which fault it is.
+        // The fault is the one that the definition `request_at` gives.
         ensures exact { Reads (λ x. (asked x.0, x.1.now)) result (request_at limits bytes.now) }
     {
         read_request(bytes, limits)
     }
 
-    /// Writes the request's frame. Errors: `InvalidInput` if a key or a value has more than `u32::MAX` bytes, or has any bytes
-    /// although the kind has none. Then nothing is written. Any other error is the writer's, which may have taken a part of the
+    /// Writes the request's frame. Errors: `InvalidInput` if a key or a value has more than `u32::MAX` bytes, or has any bytes although
+    /// the kind has none. Then nothing is written. If the writer fails, the error is the writer's, and it may have taken a part of the
     /// frame.
     pub fn write_to<W: Write>(&self, output: &mut W) -> io::Result<()>
         ensures written { OnOk result
             (Appends (W.contents output.old) (W.contents output.new) (request_bytes (asked self.now))) }
-        // So that it is read again, under the widest limits.
+        // A request that is written is within the widest limits, so it can be read again.
         ensures fits { OnOk result (IsSendable (asked self.now)) }
         ensures unsent { ¬ IsSendable (asked self.now) → Keeps (W.contents output.old) (W.contents output.new) }
     {
@@ -221,7 +220,8 @@ impl<'a> Request<'a> {
     }
 }
 
-/// What is written is read again, whatever follows it; and the frame of no request begins the frame of another one.
+/// Does nothing; its contract is a law of frames within limits. A request's frame is read as that request, whatever follows. No request's
+/// frame is the beginning of another request's frame.
 pub fn one_reading()
     ensures again { (limits : Limits) (r : Asked) (rest : List ℕ) → Fits limits r
         → request_at limits (request_bytes r ++ rest) ≡ Ok (r, rest) }

@@ -1,4 +1,4 @@
-//! Streams as they come, in pieces and with errors, and what is said of each; frames as bytes that were worked out by hand.
+//! Tests of streams that are read in pieces and with errors, and of frames whose bytes were worked out by hand.
 use crate::frames::{Filled, Frames, Next, Taken};
 use crate::kind::Kind;
 use crate::reply::{self, Reply};
@@ -19,7 +19,7 @@ const CLOSE: &[u8] = b"q\0\0\0\x01\0\0\0\0\0\0\0\0";
 
 const REPLY: &[u8] = b"\x02\x01\0\0\x07\x03\0\0\0xyz";
 
-// What was answered, as one text. A part for which memory is missing is left out, and the text then is another one.
+// What was answered, as one text. If memory is refused, a part is left out, so the text differs.
 #[derive(Drop)]
 struct Said {
     text: String,
@@ -51,7 +51,7 @@ impl Said {
     }
 }
 
-// Gives at most so many bytes in one read. Each read whose turn is a multiple of `trouble` fails.
+// Gives at most `most` bytes in one read. Each read whose turn is a multiple of `trouble` fails.
 #[derive(Drop)]
 struct Pieces<'a> {
     rest: &'a [u8],
@@ -103,7 +103,7 @@ fn say_next<R: Read + Drop>(
     true
 }
 
-// All that stands in the stream.
+// Notes all requests of the stream, and how it ends.
 fn say_all<R: Read + Drop>(said: &mut Said, alloc: Global, input: R) {
     let Ok(mut frames) = Frames::new(alloc, input, LIMITS) else {
         return;
@@ -210,7 +210,7 @@ fn takes_and_fills(rt: HostRuntime) {
     assert_eq!(rt; said.text.as_str(), want);
 }
 
-// A put whose value has so many bytes, by its head and its key, and how long the buffer grew for it.
+// Reads one request, and gives the buffer's length then. None if no request is read, or its value hasn't the length that its head says.
 fn grown(alloc: Global, input: &[u8], limits: Limits) -> Option<usize> {
     let mut frames = Frames::new(alloc, input, limits).ok()?;
     let Ok(Next::Request(head)) = frames.next() else {
@@ -259,7 +259,7 @@ fn requests_as_bytes(rt: HostRuntime) {
         value: b"",
     };
     assert!(rt; sent(rt.alloc(), &wait).is_none());
-    // One without a value is sent too.
+    // A request without a value is sent, too.
     let get = Request {
         kind: Kind::Get,
         number: u32::MAX,

@@ -10,35 +10,35 @@ use std::alloc::{AllocError, Allocator};
 use std::io;
 use std::io::Read;
 
-// The bytes that the buffer begins with.
+// The buffer's first length in bytes.
 const FIRST_LEN: usize = 64 * 1024;
 
-/// What was found at the front of what was read.
+/// What `take` found at the front of the bytes that were read and not taken.
 #[derive(Clone, Copy, Debug, PartialEq, Eq)]
 pub enum Taken {
     /// A request.
     Request(Head),
-    /// What is no frame within the limits, nor the front of one. Nothing was taken.
+    /// Bytes that are no frame within the limits, nor the beginning of one. Nothing was taken.
     Refused(Fault),
     /// Less than a frame. Nothing was taken.
     Partial,
 }
 
-/// What a call for more bytes found.
+/// What `fill` found.
 #[derive(Clone, Copy, Debug, PartialEq, Eq)]
 pub enum Filled {
-    /// Bytes, at least one.
+    /// At least one more byte was read.
     More,
-    /// A frame is there already, or what is none: nothing was read.
+    /// The buffer has a whole frame already, or bytes that are refused. Nothing was read.
     Ready,
-    /// The stream has ended behind a whole frame.
+    /// The stream has ended, and all of its bytes were taken.
     End,
     /// The stream has ended within a frame.
     Cut,
 }
 
-// The bytes from `start` to `end` were read and not taken. The key and the value of the request that was taken last stand before
-// them, from `key` and from `value` on.
+// The bytes from `start` to `end` were read and not taken. Before them are the key and the value of the request that was taken last, from
+// `key` and from `value` on.
 pub(crate) struct Window<A: Allocator> {
     bytes: Vec<u8, A>,
     limits: Limits,
@@ -68,7 +68,7 @@ impl<A: Allocator> Drop for Window<A> {
     }
 }
 
-// Makes the bytes so many, with zeros behind those that are there. If there is no memory, the bytes stay as they are.
+// Lengthens the bytes to `len` by zeros. If there is no memory, the bytes stay as they are.
 fn lengthen<A: Allocator>(bytes: &mut Vec<u8, A>, len: usize) -> Result<(), AllocError>
     requires { vec_len bytes.old ≤ len }
     ensures ok { OnOk result (vec_len bytes.new ≡ len) }
@@ -190,7 +190,7 @@ impl<A: Allocator> Window<A> {
         self.end = end - start;
     }
 
-    // Does one read into the room behind what is held, and does it again if it was interrupted.
+    // Does one read into the room after what is held, and does it again if it was interrupted.
     pub(crate) fn read_from<R: Read>(&mut self, input: &mut R) -> io::Result<usize>
         ensures ok { IfOk result (λ n. (more : List ℕ) × (length more ≡ n) × (held self.new ≡ held self.old ++ more)
             × Consumes (R.remaining input.old) (R.remaining input.new) more) }

@@ -9,7 +9,7 @@ use foyer_io_disk::disk::Disk;
 use foyer_io_engine::io::engine::MemoryFile;
 use std::alloc::Allocator;
 
-/// The blocks of a device in one piece of memory. What was never written is zeros.
+/// The blocks of a device in one piece of memory. What was never written is zeros. An access gives Io if its range is not in the block.
 pub struct MemoryDisk<A: Allocator> {
     // The blocks one after another.
     file: MemoryFile<A>,
@@ -33,8 +33,8 @@ impl<A: Allocator> Drop for MemoryDisk<A> {
 }
 
 impl<A: Allocator> MemoryDisk<A> {
-    /// Makes so many blocks of this size in bytes, all zeros. Errors: `Memory`; `OutOfRange` if the product of
-    /// `blocks` and `block_size` passes the type's end.
+    /// Makes `blocks` blocks of `block_size` bytes, all zeros. Errors: `Memory`; `OutOfRange` if the product of
+    /// `blocks` and `block_size` passes `usize::MAX`.
     pub fn new(alloc: A, blocks: u32, block_size: usize) -> Result<MemoryDisk<A>>
         ensures zeros { IfOk result (λ d. (b o : ℕ) → ⟦<MemoryDisk<A> as Disk>⟧.byte_at d b o ≡ 0) }
         ensures sizes { IfOk result (λ d. (d.blocks ≡ blocks) × (d.block_size ≡ block_size)) }

@@ -15,7 +15,8 @@ use foyer_io_engine::io::engine::{IoEngine, MemoryIoEngine, ReadBuffer, WriteBuf
 use std::alloc::Allocator;
 use std::rt::Files;
 
-/// Blocks that are partitions of a device, and the engine that reads and writes them.
+/// Blocks that are partitions of a device, and the engine that reads and writes them. An access gives OutOfRange if its range
+/// isn't in the block's partition.
 pub struct PartitionedDisk<E: IoEngine + Drop, P: Partition + Copy, A: Allocator> {
     engine: E,
     blocks: Vec<P, A>,
@@ -47,7 +48,7 @@ impl<E: IoEngine + Drop, P: Partition + Copy, A: Allocator> PartitionedDisk<E, P
         self.engine.failures()
     }
 
-    /// The engine, once nothing is to be read or written any more.
+    /// Gives the engine, and drops the list of partitions.
     pub fn into_engine(self) -> E
         ensures { result ≡ self.engine }
     {
@@ -55,7 +56,7 @@ impl<E: IoEngine + Drop, P: Partition + Copy, A: Allocator> PartitionedDisk<E, P
         engine
     }
 
-    // The partition of a block in which so many bytes from an offset on lie.
+    // The partition of a block, if `len` bytes from the offset on lie in it.
     fn find(&self, block: BlockId, offset: usize, len: usize) -> Option<P>
         ensures found { IfSome result (λ p. (slice_get self.now.blocks.items block ≡ Some p)
             × (offset + len ≤ P.bytes p)) }
@@ -70,8 +71,8 @@ impl<E: IoEngine + Drop, P: Partition + Copy, A: Allocator> PartitionedDisk<E, P
     }
 }
 
-/// Makes a partition of that many bytes for each block, in order. Refused as `create_partition` refuses: then those that
-/// were made stay.
+/// Makes a partition of `size` bytes for each of `count` blocks, in order. Errors: those of `create_partition`, and `Memory`
+/// for the list. After an error the partitions that were made stay in the device.
 pub fn create_blocks<D: Device, R: Files, A: Allocator>(
     rt: &R,
     alloc: A,
@@ -95,9 +96,9 @@ pub fn create_blocks<D: Device, R: Files, A: Allocator>(
     Ok(blocks)
 }
 
-/// Opens so many blocks of a size in memory, all zeros. They are behind a device and an engine, as the blocks of a
-/// directory are. Errors: those of `create_blocks`, and `OutOfRange` if the product of `count` and `size` passes the
-/// type's end.
+/// Opens `count` blocks of `size` bytes in memory, all zeros. They are over a device and an engine, as the blocks of a
+/// directory are. Errors: those of `create_blocks`, and `OutOfRange` if the product of `count` and `size` passes
+/// `usize::MAX`.
 pub fn open_in_memory<R: Files, A: Allocator + Clone>(
     rt: &R,
     alloc: &A,

@@ -9,29 +9,29 @@ use std::alloc::Allocator;
 
 /// Blocks of bytes. The bytes stay, except for what `write` changes.
 pub trait Disk {
-    // Contracts see its bytes. Those of a system's files aren't seen: nothing is claimed of what a read of them gives.
+    // Whether contracts see its bytes. They don't see those of a system's files: nothing is claimed about what a read gives.
     ghost is_known: { Self → Type 0 };
 
     // The byte at an offset of a block.
     ghost byte_at: { Self → ℕ → ℕ → ℕ };
 
-    // So many bytes from an offset of a block on can be read and written without a fault.
+    // This many bytes from an offset of a block on can be read and written without a fault.
     ghost surely_has: { Self → ℕ → ℕ → ℕ → Type 0 };
 
     // How many of its accesses the device failed, as far as it counts.
     ghost faults: { Self → ℕ };
 
-    // So many bytes from an offset of a block on surely lie in it. An access of them fails only if the device failed.
+    // This many bytes from an offset of a block on surely lie in it. An access of them fails only if the device failed.
     ghost surely_lies: { Self → ℕ → ℕ → ℕ → Type 0 };
 
-    // So many bytes from an offset of a block on are there at all; a disk that doesn't say has any.
+    // This many bytes from an offset of a block on may be there. By default any may be.
     ghost may_have: { Self → ℕ → ℕ → ℕ → Type 0 } = { λ _ _ _ _. Unit {0} };
 
-    // What a fault may be of so many bytes from an offset of a block on; of a disk that doesn't say any error.
+    // The errors that an access of this many bytes from an offset of a block on may give. By default these are all.
     ghost may_answer: { Self → ℕ → ℕ → ℕ → error → Type 0 } = { λ _ _ _ _ _. Unit {0} };
 
-    /// Fills the buffer with as many bytes as it has from `offset` of a block on, and gives it back. After an error it
-    /// may hold anything.
+    /// Fills the buffer with the bytes from `offset` of a block on, and returns the buffer. After an error the buffer may
+    /// have any bytes.
     fn read<A: Allocator>(
         &mut self,
         block: BlockId,
@@ -52,7 +52,7 @@ pub trait Disk {
         ensures within { OnOk result.1 (may_have self.old block offset (vec_len buffer)) }
         ensures fault { IfErr result.1 (may_answer self.old block offset (vec_len buffer)) };
 
-    /// Writes the bytes over those from `offset` of a block on. After an error any bytes may stand in their range.
+    /// Writes the bytes over those from `offset` of a block on. After an error that range may have any bytes.
     fn write(&mut self, block: BlockId, offset: usize, bytes: &[u8]) -> Result<()>
         ensures wrote { is_known self.old
             → OnOk result (IsWritten (byte_at self.old) block offset bytes.now (byte_at self.new)) }

@@ -9,23 +9,23 @@ use std::sync::Arc;
 /// A place that a thread passes.
 #[derive(Clone, Copy, Debug, PartialEq, Eq)]
 pub enum Point {
-    /// Before a flush's write.
+    /// Before a flush's writes to a block.
     FlushWrite,
     /// Before a load's read.
     LoadRead,
-    /// Before a reclaim.
+    /// Before a reclaim's read of its block.
     Reclaim,
     /// Before a recovery's first read of a block.
     RecoverRead(BlockId),
 }
 
-/// What a thread passes at a point. It takes no lock and no runtime, and an engine calls it under none of its locks.
+/// What a thread passes at a point. It is given no runtime, and an engine calls it while it holds none of its own locks.
 pub trait Gate: Drop {
-    /// Returns once the thread may go on.
+    /// Returns once the thread may continue.
     fn pass(&self, point: Point);
 }
 
-/// A gate that holds nobody.
+/// A gate that holds no thread.
 #[derive(Clone, Copy, Debug, Default, PartialEq, Eq)]
 pub struct OpenGate;
 

@@ -2,7 +2,7 @@
 //!
 //! Each read and write is the inner engine's, with its buffer, its outcome and its bytes on the disk. Once it has
 //! completed, with a success or a refusal, it is recorded: the bytes that were asked for, and the calls that they count.
-//! A refused one counts too, since the device was asked.
+//! A refused one is recorded too, even if its range isn't there.
 #![tactic(auto)]
 
 pub mod monitor;

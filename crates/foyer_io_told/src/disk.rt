@@ -34,7 +34,7 @@ impl RightNumber for DiskRight {
     ghost right = { disk_right };
 }
 
-/// Names a history by its table. A call that passes `Brand` picks it.
+/// Names a history by its table. For a call that passes `Brand`, the caller's proof picks the table.
 pub trait HistoryName {
     ghost use Rattle.atomic_table.specs.Seated.{TableId};
 
@@ -47,7 +47,7 @@ impl HistoryName for Brand {
     ghost table = { no_table };
 }
 
-/// A disk whose bytes are known, with the witness that tells its accesses. It lies behind a lock.
+/// A disk whose bytes are known, with the witness that adds its accesses to the history. It lies behind a lock.
 pub struct ToldDisk<J, K, V, P, A, D>
 where
     J: HistoryName,
@@ -116,7 +116,8 @@ where
     A: Allocator + Clone,
     D: Disk,
 {
-    /// The disk of a history that was told of it, with the witness that has the disk's right.
+    /// Makes the disk of a history. Requires that the disk's bytes are known, and that the witness has the disk's right. The events that
+    /// the witness has seen must lead to these bytes.
     pub fn new(
         disk: D,
         spare: Vec<u8, A>,
@@ -135,7 +136,8 @@ where
         }
     }
 
-    /// Does the read of a ticket, whose right the caller has, and tells it. `Err` is a refused allocation: then nothing is told.
+    /// Does the read of a ticket, and adds the read to the history. Requires that the caller has the ticket's right, and that the read was
+    /// issued and isn't done. `Err` is a refused allocation: then nothing is added.
     pub fn read(
         &mut self,
         history: &ToldHistory<K, V, P, A, D>,
@@ -165,7 +167,8 @@ where
         Ok(outcome)
     }
 
-    /// Does a read for the reclaim of a block, whose right the caller has, and tells it. Memory that is refused for it is a fault too.
+    /// Does a read for the reclaim of a block, and adds the read to the history. Requires that the caller has the right of the block's
+    /// reads, and that this read was issued and isn't done. If memory for the read is refused, that is a fault of the read, too.
     pub fn scan(
         &mut self,
         history: &ToldHistory<K, V, P, A, D>,
@@ -191,8 +194,8 @@ where
         outcome
     }
 
-    /// Does the next write of a flusher, whose right the caller has, and tells it, also if it fails: then any bytes may be in its
-    /// range.
+    /// Does the next write of a flusher, and adds the write to the history, even if it fails. Requires that the caller has the right of the
+    /// flusher's writes, and that this write is the next one issued. After a write that failed, any bytes may be in its range.
     pub fn write(
         &mut self,
         history: &ToldHistory<K, V, P, A, D>,
@@ -220,7 +223,8 @@ where
         outcome
     }
 
-    /// Cleans a block, whose right the caller has, and tells it, also if it fails: then any bytes may be in its first page.
+    /// Cleans a block, and adds the clean to the history, even if it fails. Requires that the caller has the right of the block's clean,
+    /// and that the clean was issued and isn't done. After a clean that failed, any bytes may be in the block's first page.
     pub fn clean(
         &mut self,
         history: &ToldHistory<K, V, P, A, D>,

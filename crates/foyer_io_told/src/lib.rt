@@ -1,4 +1,4 @@
-//! A disk under its lock: each access is told in the one history of all threads, as it happened.
+//! A disk under its lock. Each access is recorded in the one history of all threads, as it happened.
 #![tactic(auto)]
 
 pub mod disk;

@@ -43,8 +43,8 @@ pub some_listed : {A : Type 0} (r : Option (Vec EntryInfo A)) (infos : Vec Entry
     → Some infos.items ≡ listed
 some_listed r infos is listed e = sym (ap (option_map (λ v. v.items)) is) ∙ e
 
--- From its start a chain lists these, and comes to an offset: whichever reads fail behind it, what is listed from there on
--- comes behind these. Or it has ended where no index has room, and no read failed.
+-- From its start a chain lists these, and comes to an offset. Whichever reads fail from that offset on, what is listed from
+-- there on comes after these. Or the chain has ended where no index has room, and no read failed.
 abbrev pub Reaches : Sizes → (ℕ → ℕ) → List BlobEntryIndex → Option ℕ → Type 0
 Reaches s B given None = (q : ℕ) × Chain s B all_read 0 given q × (s.block < q + s.index)
 Reaches s B given (Some p) = (f : ℕ → Bool) → ((q : ℕ) → q < p → f q ≡ false) → (ls : List BlobEntryIndex) (q : ℕ) → Chain s B f p ls q → Chain s B f 0 (given ++ ls) q

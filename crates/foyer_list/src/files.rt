@@ -12,8 +12,8 @@ use std::io;
 use std::os::unix::fs::FileExt;
 use std::rt::Files;
 
-/// The files of a directory's blocks. A read that a file doesn't have, or whose file is missing, is `Io`, and every write is
-/// `Unsupported`: nothing is made, cut or lengthened.
+/// The files of a directory's blocks. A read is `Io` if it fails, also because its file is missing or too short. A write is
+/// `Unsupported`. No file is made, cut or lengthened.
 #[derive(Drop)]
 pub struct BlockFiles<A: Allocator> {
     // The file of each block, if there is one.
@@ -22,7 +22,7 @@ pub struct BlockFiles<A: Allocator> {
     failures: u64,
 }
 
-// Opens the file at a path for reading, if there is one. Io.
+// Opens the file at a path for reading. None if there is no file. Errors: `Io`.
 fn open_file<R: Files<File = File>>(rt: &R, path: &str) -> Result<Option<File>>
     ensures { IfErr result (λ e. e ≡ error.Io) }
 {

@@ -21,7 +21,7 @@ pub fn word_of(verdict: Verdict) -> &'static str
     }
 }
 
-/// The line that begins a block's list.
+/// Makes the line that begins a block's list. Errors: `Memory`.
 pub fn block_line<A: Allocator>(alloc: A, block: BlockId) -> Result<String<A>>
     ensures text { IfOk result (λ line. string_bytes line ≡ block_text block) }
     ensures memory { IsOkUnless result Memory }
@@ -30,7 +30,8 @@ pub fn block_line<A: Allocator>(alloc: A, block: BlockId) -> Result<String<A>>
     Ok(line)
 }
 
-/// Makes an entry's line: its hash, its sequence, where its record begins in the block, how long it is, and the verdict on it.
+/// Makes an entry's line: its hash, its sequence, where its record begins in the block, how long it is, and the verdict on it. Errors:
+/// `Memory`.
 pub fn entry_line<A: Allocator>(alloc: A, info: &EntryInfo, verdict: Verdict) -> Result<String<A>>
     ensures text { IfOk result (λ line. string_bytes line ≡ entry_text info.now verdict) }
     ensures memory { IsOkUnless result Memory }
@@ -44,7 +45,8 @@ pub fn entry_line<A: Allocator>(alloc: A, info: &EntryInfo, verdict: Verdict) ->
     Ok(line)
 }
 
-/// The line that ends a block's list: why its chain of indices ends, and at which offset.
+/// Makes the line that ends a block's list. It says why the block's chain of indices ends, and at which offset, unless it ends with the
+/// block. Errors: `Memory`.
 pub fn end_line<A: Allocator>(alloc: A, end: ChainEnd) -> Result<String<A>>
     ensures text { IfOk result (λ line. string_bytes line ≡ end_text end) }
     ensures memory { IsOkUnless result Memory }

@@ -22,7 +22,7 @@ use std::rt::Files;
 /// The text that is printed if the arguments are bad.
 pub const USAGE: &str = "usage: foyerlist DIR CAPACITY BLOCK\n";
 
-// The bytes of the output's buffer.
+// The size of the output's buffer in bytes.
 const OUTPUT_CAPACITY: usize = 64 * 1024;
 
 // All went well; something was refused, or the output failed; the arguments were bad.
@@ -62,8 +62,8 @@ impl From<io::Error> for Stopped {
 /// Lists what the blocks of a directory hold, by the words `DIR CAPACITY BLOCK`, and gives the exit status. The status is 0, or 1 if a fault
 /// was printed or the output failed, or 2 for bad words. `:memory:` is a bad word. `--version` alone prints the version.
 ///
-/// Files are opened only for reading. A missing file, or one that is too short, is a failed read. If a file that is there can't be opened, a
-/// line of `errors` says so. The fault is printed as well.
+/// Files are opened only for reading. A missing file, or one that is too short, is a failed read. If a file that is there can't be
+/// opened, or memory for the files is refused, a line of `errors` says so. The fault is printed as well.
 pub fn list<T, A, B, W, E>(
     rt: &T,
     alloc: A,

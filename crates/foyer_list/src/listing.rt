@@ -15,11 +15,11 @@ use std::alloc::Allocator;
 /// Why the chain of a block's indices ends.
 #[derive(Clone, Copy, Debug, PartialEq, Eq)]
 pub enum ChainEnd {
-    /// Behind the last index no other has room.
+    /// The block has no room for another index. Or the last index has no entries, so the block ends with it.
     BlockEnd,
     /// The index at this offset couldn't be read.
     FailedRead { offset: usize },
-    /// At this offset stands no index, or one with an entry that doesn't fit.
+    /// At this offset is no index, or an index with an entry that doesn't fit.
     NoIndex { offset: usize },
 }
 
@@ -30,7 +30,7 @@ pub struct Listing<A: Allocator> {
     pub entries: Vec<EntryInfo, A>,
     /// Why there are no more.
     pub end: ChainEnd,
-    /// How many of the entries an opening keeps: those before the first whose sequence falls.
+    /// How many of the entries an opening keeps: those before the first whose sequence is below the one before it.
     pub kept: usize,
 }
 
@@ -48,7 +48,7 @@ struct ListedChain<A: Allocator> {
     end: ChainEnd,
 }
 
-// Reads as many bytes as the buffer has from an offset of a block on.
+// Fills the buffer from an offset of a block.
 fn read_index<A: Allocator, D: Disk>(
     disk: &mut D,
     block: BlockId,
@@ -68,7 +68,7 @@ fn read_index<A: Allocator, D: Disk>(
     IndexRead { buffer, came }
 }
 
-// How many infos stand before the first whose sequence is below the one before it.
+// How many infos are before the first whose sequence is below the one before it.
 fn count_kept(infos: &[EntryInfo]) -> usize
     ensures { result ≡ length (rising_infos (Some 0) infos.now) }
 {
@@ -125,8 +125,9 @@ fn list_chain<A: Allocator + Clone, D: Disk>(
     Ok(ListedChain { entries, end })
 }
 
-/// Reads what a block lists: the indices of its chain, one after the other, and no more of it. Memory alone refuses it; a
-/// read that fails ends the chain. What is on the disk stays as it is.
+/// Reads the indices of a block's chain, one after the other, and nothing else of the block. A failed read ends the chain. The disk's
+/// bytes stay as they are. An index must be whole pages, at least one, and smaller than the block. A block must have at most 2^32 bytes.
+/// Errors: `Memory`.
 pub fn list_block<A: Allocator + Clone, D: Disk>(
     alloc: &A,
     disk: &mut D,

@@ -14,18 +14,18 @@ use foyer_device_page::error::Result;
 use foyer_io_disk::disk::Disk;
 use std::alloc::Allocator;
 
-/// What becomes of an entry in an opening.
+/// What an opening does with an entry.
 #[derive(Clone, Copy, Debug, PartialEq, Eq)]
 pub enum Verdict {
-    /// Its hash is found at it.
+    /// An opening finds the hash at this entry.
     Wins,
-    /// It is kept, but its hash is found elsewhere.
+    /// An opening keeps this entry, but doesn't find the hash at it.
     Loses,
-    /// It stands behind a fall of the sequence, so it isn't kept.
+    /// The sequence of this entry, or of an earlier one of the block, is below that of the entry before it. So this entry isn't kept.
     Dropped,
 }
 
-/// The verdict on an entry of a block, by the addresses that an opening found, and by whether the entry is kept.
+/// Gives `Wins` if `found` has the entry's address under the entry's hash. If not, it gives `Loses` if the entry is kept, else `Dropped`.
 pub fn verdict_of<A: Allocator + Clone>(
     found: &Indexer<A>,
     info: &EntryInfo,
@@ -47,8 +47,8 @@ pub fn verdict_of<A: Allocator + Clone>(
     }
 }
 
-/// Gives the addresses that an opening of the disk's blocks finds, without marks of deletes. A failed read refuses nothing. Errors: `Config`
-/// if the sizes don't go together; `SequenceEnd` if an entry that is kept has the last sequence; `Memory`.
+/// Gives the addresses that an opening of the disk's blocks finds without a log of deletes. A failed read is no error. Errors: `Config`
+/// if `settings.check()` refuses the sizes, `SequenceEnd` if an entry that is kept has the last sequence, and `Memory`.
 pub fn winners<A: Allocator + Clone, D: Disk>(
     alloc: &A,
     disk: &mut D,

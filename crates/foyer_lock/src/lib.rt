@@ -1,15 +1,15 @@
-//! What threads do before they sleep for one another: they look again for some microseconds.
+//! Before threads sleep to wait for one another, they check again for a fraction of a millisecond.
 #![tactic(auto)]
 
 use std::hint::spin_loop;
 use std::sync::{Mutex, MutexGuard, Wait};
 
-/// How often a thread looks for what another brings about shortly, with a `pause_shortly` between, before it sleeps for it: for 100 to 250
-/// microseconds. Chosen by measurement: against 100 looks, four threads that read through one I/O engine got twice as many records. On one
-/// processor nothing was lost.
+/// How many times a thread checks for something that another thread does shortly, before it sleeps. With a `pause_shortly` after each, the
+/// checks take 100 to 250 microseconds. Chosen by measurement: four threads that read through one I/O engine got twice as many records as
+/// with 100 checks. On one processor nothing was lost.
 pub const LOOKS: u32 = 1000;
 
-// How often a processor pauses between two looks.
+// How many times a processor pauses between two checks.
 const PAUSES: u32 = 4;
 
 /// Lets a fraction of a microsecond pass.
@@ -19,9 +19,9 @@ pub fn pause_shortly() {
     }
 }
 
-/// Takes a lock, as `Mutex::lock` does, but looks for some microseconds before it sleeps. For locks that are held shortly and taken by
-/// several threads at once. `Mutex::lock` looks as long at a lock for which no one sleeps, but sleeps at once behind another that
-/// does, so that each hands the lock on to the next for the time of a wake.
+/// Takes a lock, but tries it up to `LOOKS` times before it calls `Mutex::lock`. This is for locks that several threads want at once and
+/// hold for a short time. `Mutex::lock` itself tries 100 times, and only while no thread sleeps for the lock. If one does, `Mutex::lock`
+/// sleeps at once. Each thread then passes the lock to the next one, which first has to wake up.
 pub fn lock_spinning<'a, T>(lock: &'a Mutex<T>, rt: &impl Wait) -> MutexGuard<'a, T> {
     for _ in 0..LOOKS {
         if let Some(guard) = lock.try_lock() {

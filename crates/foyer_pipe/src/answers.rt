@@ -39,7 +39,7 @@ impl HashBuilder<Bytes> for BytesHashBuilder {
     }
 }
 
-/// What a store of the program is.
+/// The store that the program uses.
 pub(crate) type Cache<N> = Store<N, Bytes, Bytes, NoProperties, BytesHashBuilder>;
 
 // The code of the answer to a put.
@@ -64,7 +64,7 @@ fn done_code(done: &Result<()>) -> u8
     }
 }
 
-// The code of the answer to a question.
+// The code of the answer to the question whether the cache has a key's hash.
 fn whether_code(has: &Result<bool>) -> u8
     ensures { result ≡ whether_code has.now }
 {
@@ -75,14 +75,14 @@ fn whether_code(has: &Result<bool>) -> u8
     }
 }
 
-// What stands for an answer in a reply.
+// An answer as a reply has it.
 #[derive(Drop)]
 struct Coded<'a> {
     code: u8,
     bytes: &'a [u8],
 }
 
-// What stands for the answer to a get.
+// The answer to a get, as a reply has it.
 fn encode_load(got: &Result<Load<Bytes, Bytes, NoProperties, Global>>) -> Coded<'_>
     ensures code { result.code ≡ get_code got.now }
     ensures bytes { result.bytes.now ≡ get_bytes got.now }
@@ -136,7 +136,7 @@ fn bytes_of(alloc: Global, bytes: &[u8]) -> Result<Bytes>
     Ok(Vec::from_slice(alloc, bytes)?)
 }
 
-// A key as it is kept: behind the eight bytes of the seed, the lowest first, unless that is 0.
+// A key as the store gets it: after the eight bytes of the seed, the lowest first, or alone if the seed is 0.
 fn key_of(alloc: Global, seed: u64, key: &[u8]) -> Result<Bytes>
     ensures { IfOk result (λ kept. kept.items ≡ seeded_key seed key.now) }
 {
@@ -161,7 +161,7 @@ fn put<S: Drop, N: Engine<S, Bytes, Bytes, NoProperties>>(
     cache.put(rt, alloc, session, key, value, NoProperties, now)
 }
 
-/// Answers a get at a moment.
+/// Answers a get at the moment `now`.
 pub(crate) fn answer_get<S: Drop, N: Engine<S, Bytes, Bytes, NoProperties>, O: Write + Drop>(
     rt: &impl Wait,
     cache: &Cache<N>,
@@ -174,7 +174,7 @@ pub(crate) fn answer_get<S: Drop, N: Engine<S, Bytes, Bytes, NoProperties>, O: W
     reply_get(rt, replies, get.number, got);
 }
 
-// Leaves a get to a thread that answers gets, or answers it if none runs or too many wait.
+// Leaves a get to a thread that answers gets. If none runs, too many gets wait, or memory is refused, answers it here.
 fn answer_or_leave<S: Drop, N: Engine<S, Bytes, Bytes, NoProperties>, O: Write + Drop>(
     rt: &impl Wait,
     cache: &Cache<N>,
@@ -203,7 +203,7 @@ fn counter(name: &'static str, count: u64) -> Counted {
     Counted { name, count }
 }
 
-// What the device did, and what the cache's threads did.
+// The counters of the device and of the cache's threads.
 fn work_of(c: &StoreCounters) -> [Counted; 8] {
     [
         counter("disk_write_bytes", c.disk_write_bytes),
@@ -217,7 +217,7 @@ fn work_of(c: &StoreCounters) -> [Counted; 8] {
     ]
 }
 
-// What became of puts, deletes and gets.
+// The counters of puts, deletes and gets.
 fn calls_of(c: &StoreCounters) -> [Counted; 10] {
     [
         counter("queued_puts", c.queued_puts),
@@ -271,7 +271,7 @@ pub(crate) struct Asked<'a> {
     pub(crate) value: &'a [u8],
 }
 
-// Answers a request of a key at a moment.
+// Answers a request that has a key, at the moment `now`, or leaves a get to a thread that answers gets.
 fn answer_keyed<S: Drop, N: Engine<S, Bytes, Bytes, NoProperties>, O: Write + Drop>(
     rt: &impl Wait,
     alloc: Global,
@@ -309,7 +309,8 @@ fn answer_keyed<S: Drop, N: Engine<S, Bytes, Bytes, NoProperties>, O: Write + Dr
     }
 }
 
-/// Answers a request at a moment, or leaves it to a thread that answers gets. Keys are kept behind the bytes of the seed, unless that is 0.
+/// Answers a request at the moment `now`, or leaves a get to a thread that answers gets. The store gets each key after the bytes of the
+/// seed, or alone if the seed is 0.
 pub(crate) fn answer<S: Drop, N: Engine<S, Bytes, Bytes, NoProperties>, O: Write + Drop>(
     rt: &impl Wait,
     alloc: Global,

@@ -5,7 +5,7 @@ ghost use Rattle.foyer_pipe.specs.Codes.{error_code, fault_code};
 use foyer_device_page::error::ErrorKind;
 use foyer_frames::request::Fault;
 
-/// Done: a put is queued, a delete accepted, a wait, a destroy or a close has ended. With `c` the counters, a line each.
+/// Done. A put is queued. A delete is accepted. A wait, a destroy or a close has ended. To `c` the counters follow, a line for each.
 pub const DONE: u8 = 0;
 
 /// A get's value.
@@ -14,7 +14,7 @@ pub const ENTRY: u8 = 1;
 /// There is nothing under the key.
 pub const MISS: u8 = 2;
 
-/// A put that isn't taken, since its value is young: nothing is deleted. No put of this program is.
+/// A put that isn't taken, since its value is young. Nothing is deleted. This program has no young values.
 pub const IGNORED: u8 = 3;
 
 /// A put that isn't taken, since too much is queued or a limit of writes holds it back. Its key is deleted.
@@ -26,10 +26,10 @@ pub const THROTTLED: u8 = 5;
 /// The cache has the key's hash.
 pub const YES: u8 = 6;
 
-/// It hasn't.
+/// The cache doesn't have the key's hash.
 pub const NO: u8 = 7;
 
-/// The code of an error: 64 and the kind's number, from 65 for `Io` to 77 for `SequenceEnd`.
+/// Gives the code of an error: 64 plus the kind's number, from 65 for `Io` to 77 for `SequenceEnd`.
 pub fn error_code(kind: ErrorKind) -> u8
     ensures { result ≡ error_code kind }
 {
@@ -50,7 +50,7 @@ pub fn error_code(kind: ErrorKind) -> u8
     }
 }
 
-/// The code of a frame that is none, after which the program ends.
+/// Gives the code for bytes that are no frame, 128 to 133. The program ends after them.
 pub fn fault_code(fault: Fault) -> u8
     ensures { result ≡ fault_code fault }
 {

@@ -1,4 +1,4 @@
-//! A program over a store of byte strings that is asked by frames (`foyer_frames`), for clients in any language.
+//! A program over a store of byte strings, for clients in any language. It reads requests and writes replies as frames (`foyer_frames`).
 #![tactic(auto)]
 
 mod answers;

@@ -10,35 +10,35 @@ use std::alloc::Allocator;
 /// Printed if the arguments are bad.
 pub const USAGE: &str = "usage: foyerpipe DIR CAPACITY BLOCK [NAME=VALUE..]\n";
 
-/// How the cache is set, beside its directory and sizes.
+/// The cache's settings, besides its directory and sizes.
 #[derive(Clone, Copy, Debug, PartialEq, Eq)]
 pub struct PipeOptions {
-    /// The threads that write.
+    /// How many threads of each core write.
     pub flushers: u32,
-    /// The threads that reclaim.
+    /// How many threads of each core reclaim.
     pub reclaimers: u32,
-    /// The I/O engines that gets read through.
+    /// Through how many I/O engines of each core gets read.
     pub engines: usize,
-    /// The threads that answer gets beside the one that reads requests.
+    /// How many threads answer gets, besides the one that reads requests.
     pub readers: u32,
-    /// How often a put that finds too much queued looks again.
+    /// If a put finds too much queued, how often it looks again before its key is deleted.
     pub patience: u32,
-    /// What keys are hashed behind, in eight bytes; 0 for nothing.
+    /// A number that is put before each key, as eight bytes, the lowest first. With 0 nothing is put before keys.
     pub seed: u64,
-    /// The cores, each with a part of the keys, a directory and threads of its own: 1, 2 or 4.
+    /// How many cores there are: 1, 2 or 4. Each has its part of the keys and of the capacity, and threads of its own.
     pub cores: u64,
-    /// The clean blocks below which a reclaim may begin.
+    /// A reclaim may begin if fewer of a core's blocks than this are clean.
     pub clean: usize,
     /// Whether deletes are logged.
     pub has_log: bool,
-    /// What an opening does with what it finds.
+    /// What an opening reads, and what it does if it can't read all of a block.
     pub mode: RecoverMode,
-    /// The bytes that may be read and written in a second, and the calls; 0 is any number.
+    /// How many bytes may be read and written in a second, and by how many calls. The cores share these limits equally. 0 is no limit.
     pub read_bytes: usize,
     pub write_bytes: usize,
     pub read_calls: usize,
     pub write_calls: usize,
-    /// The most bytes of a key and of a value.
+    /// The most bytes of a key and of a value in a frame.
     pub limits: Limits,
 }
 
@@ -49,8 +49,8 @@ pub const DEFAULT_KEY_BYTES: u32 = 1 << 16;
 pub const DEFAULT_VALUE_BYTES: u32 = 1 << 26;
 
 impl PipeOptions {
-    /// One flusher, one reclaimer, one I/O engine for gets, no thread for gets alone, no patience, no seed, one core, one clean block, no log,
-    /// the mode `quiet`, no limits, keys of 64 KiB and values of 64 MiB at most.
+    /// Gives the defaults: one flusher, one reclaimer, one I/O engine for gets, no thread for gets alone, no patience, no seed, one core,
+    /// one clean block, no log, the mode `quiet`, no limits of reads or writes, keys of 64 KiB and values of 64 MiB at most.
     pub fn new() -> PipeOptions {
         PipeOptions {
             flushers: 1,
@@ -74,7 +74,7 @@ impl PipeOptions {
         }
     }
 
-    // With a setting, unless its name or its value is bad.
+    // Changes one setting. None if its name or its value is bad.
     fn with(self, word: &str) -> Option<PipeOptions> {
         let (name, text) = word.split_once('=')?;
         if name == "recover" {
@@ -117,7 +117,8 @@ impl PipeOptions {
         Some(self)
     }
 
-    /// Reads the words behind the first three. None if one is no setting.
+    /// Reads settings, each a word `NAME=VALUE`, over the defaults. If a name is there twice, the later value counts. Gives `None` if a
+    /// word is bad.
     pub fn parse<A: Allocator>(words: &[String<A>]) -> Option<PipeOptions> {
         let mut options = PipeOptions::new();
         for word in words.iter() {
@@ -127,7 +128,7 @@ impl PipeOptions {
     }
 }
 
-// A number up to the greatest.
+// The number, if it is at most `greatest`.
 fn up_to(number: u64, greatest: u32) -> Option<u32> {
     let count = u32::try_from(number).ok()?;
     if count > greatest {
@@ -136,7 +137,7 @@ fn up_to(number: u64, greatest: u32) -> Option<u32> {
     Some(count)
 }
 
-// A number from 1 to the greatest.
+// The number, if it is from 1 to `greatest`.
 fn count_of(number: u64, greatest: u32) -> Option<u32> {
     let count = up_to(number, greatest)?;
     if count == 0 {
@@ -145,7 +146,7 @@ fn count_of(number: u64, greatest: u32) -> Option<u32> {
     Some(count)
 }
 
-// The number of a store's cores.
+// The number, if a store can have this many cores: 1, 2 or 4.
 fn cores_of(number: u64) -> Option<u64>
     ensures taken { (number ≡ 1) ⊎ ((number ≡ 2) ⊎ (number ≡ 4)) → result ≡ Some number }
     ensures refused { number ≢ 1 → number ≢ 2 → number ≢ 4 → result ≡ None }
@@ -164,7 +165,7 @@ fn flag_of(number: u64) -> Option<bool> {
     }
 }
 
-/// The directory and the sizes, and the settings. None for bad words.
+/// Reads the directory, the sizes and the settings. Gives `None` for bad words.
 pub fn parse_words<A: Allocator>(words: &[String<A>]) -> Option<(Options<'_>, PipeOptions)> {
     if words.len() < 3 {
         return None;

@@ -1,4 +1,4 @@
-//! Threads that answer gets, while another one reads requests on.
+//! Threads that answer gets, while another thread reads more requests.
 use crate::answers::{Bytes, Cache, answer_get};
 use crate::replies::Replies;
 use foyer_format_record::serde::NoProperties;
@@ -21,7 +21,7 @@ pub(crate) struct Get {
     pub(crate) key: Bytes,
 }
 
-// What stands behind the lock: the gets that wait, in their order, and whether no more come.
+// What the lock guards: the gets that wait, in their order, and whether no more will be added.
 struct Queue {
     waiting: VecDeque<Get>,
     is_closed: bool,
@@ -38,7 +38,7 @@ impl Drop for Queue {
 }
 
 impl Queue {
-    // Adds a get, unless so many wait, or memory is refused: then it is handed back.
+    // Adds a get. Returns the get if `most` gets wait already, or memory is refused.
     fn add(&mut self, get: Get, most: usize) -> std::result::Result<(), Get> {
         if self.waiting.len() >= most || self.waiting.reserve(1).is_err() {
             return Err(get);
@@ -73,7 +73,7 @@ impl Drop for Gets {
 }
 
 impl Gets {
-    /// None, and no thread.
+    /// Gives a queue without gets, before any thread has begun.
     pub(crate) fn new(alloc: Global) -> Gets {
         let queue = Queue {
             waiting: VecDeque::new(alloc),
@@ -91,7 +91,7 @@ impl Gets {
         self.readers.load(Ordering::Relaxed) > 0
     }
 
-    /// Leaves a get to a thread. It is handed back if too many wait already, or memory is refused.
+    /// Leaves a get to a thread. Returns the get if too many wait already, or memory is refused.
     pub(crate) fn offer(&self, rt: &impl Wait, get: Get) -> std::result::Result<(), Get> {
         let readers = self.readers.load(Ordering::Relaxed);
         let most = readers.saturating_mul(WAITING_FOR_EACH);
@@ -100,7 +100,7 @@ impl Gets {
         Ok(())
     }
 
-    // The get that has waited longest, once there is one; none once no more come.
+    // Waits for a get, and takes the one that has waited longest. None once the queue is closed and empty.
     fn take(&self, rt: &impl Wait) -> Option<Get> {
         let mut queue = self.changed.wait_while(
             rt,
@@ -110,19 +110,19 @@ impl Gets {
         queue.waiting.pop_front()
     }
 
-    // Whether none waits.
+    // Whether no get waits.
     fn is_empty(&self, rt: &impl Wait) -> bool {
         lock_spinning(&self.queue, rt).waiting.is_empty()
     }
 
-    /// Says that no more come: threads end once none waits.
+    /// Closes the queue: the threads end once no get waits.
     pub(crate) fn close(&self, rt: &impl Wait) {
         lock_spinning(&self.queue, rt).is_closed = true;
         self.changed.notify_all();
     }
 }
 
-/// Answers gets until no more come. Each reply is flushed by its own thread or by that of a later get.
+/// Answers gets until the queue is closed and empty. Replies are flushed once no get waits.
 pub(crate) fn answer_gets<S, N, C, O>(
     rt: &impl Wait,
     cache: &Cache<N>,

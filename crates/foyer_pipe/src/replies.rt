@@ -50,7 +50,7 @@ impl<O: Write + Drop> Replies<O> {
         }
     }
 
-    /// Writes a reply. One that is longer than a frame can say is answered as `OutOfRange`.
+    /// Writes a reply. If it can't be written, or has more than `u32::MAX` bytes, all later flushes give false.
     pub(crate) fn write(&self, rt: &impl Wait, number: u32, code: u8, bytes: &[u8]) {
         let written = write_frame(&mut *lock_spinning(&self.output, rt), number, code, bytes);
         if written.is_err() {
@@ -58,12 +58,12 @@ impl<O: Write + Drop> Replies<O> {
         }
     }
 
-    /// Writes the reply of a refusal.
+    /// Writes the reply to a request that was refused with this error.
     pub(crate) fn write_error(&self, rt: &impl Wait, number: u32, error: Error) {
         self.write(rt, number, error_code(error.kind()), &[]);
     }
 
-    /// Has all that was written leave its buffer: whether everything could be written so far.
+    /// Writes out what the output has in its buffer. Gives whether that went well and every reply so far could be written.
     pub(crate) fn flush(&self, rt: &impl Wait) -> bool {
         let flushed = lock_spinning(&self.output, rt).flush();
         flushed.is_ok() && !self.has_failed.load(Ordering::Relaxed)

@@ -35,7 +35,7 @@ use std::rt::Files;
 use std::sync::Wait;
 use std::thread::Threads;
 
-// The bytes of the output's buffer.
+// The size of the output's buffer in bytes.
 const OUTPUT_CAPACITY: usize = 64 * 1024;
 
 // Into how many shards the keeper is divided.
@@ -44,7 +44,7 @@ const KEEPER_SHARDS: usize = 64;
 // The arguments were bad.
 const STATUS_USAGE: u8 = 2;
 
-// The threads that answer gets, and last the one for requests, for whose end they wait. Memory.
+// The jobs of the threads that answer gets, and last that of the thread for requests. The others run until it ends. Errors: `Memory`.
 fn jobs_of(alloc: Global, readers: u32) -> Result<Vec<Job>> {
     let mut jobs = Vec::new(alloc);
     for _ in 0..readers {
@@ -54,7 +54,7 @@ fn jobs_of(alloc: Global, readers: u32) -> Result<Vec<Job>> {
     Ok(jobs)
 }
 
-// What a core lies in.
+// The device and the I/O engines of a core.
 #[derive(Drop)]
 struct Place<D: Drop, I: Drop> {
     device: D,
@@ -144,7 +144,7 @@ where
     )
 }
 
-// A core's part of a limit, if there is one.
+// A core's part of a limit, at least 1. It is 0 if there is no limit.
 fn part_of(limit: usize, cores: u64) -> usize
     ensures { result ≡ core_part limit cores }
 {
@@ -166,7 +166,7 @@ fn throttle_of(options: &PipeOptions) -> Throttle
         .with_write_iops(part_of(options.write_calls, options.cores))
 }
 
-// What builds I/O engines over one memory of so many bytes.
+// Builds I/O engines over one memory of `capacity` bytes.
 fn memory(alloc: Global, capacity: usize) -> Result<SharedMemoryIoEngineConfig<Global>> {
     let mut engine = MemoryIoEngine::new(alloc);
     engine.add_file(alloc, capacity)?;
@@ -250,19 +250,20 @@ where
     )
 }
 
-// Says on a line why no cache is built.
+// Prints a line that says why the cache couldn't be opened.
 fn report<W: Write>(errors: &mut W, error: Error) -> io::Result<()> {
     errors.write_all(b"foyerpipe: the cache couldn't be opened: ")?;
     errors.write_all(name_of(error.kind()).as_bytes())?;
     errors.write_all(b"\n")
 }
 
-/// Runs the program over the words `DIR CAPACITY BLOCK` and settings, each `NAME=VALUE`, and gives its exit status: 0; or 1 if the cache
-/// couldn't be built, a frame was none or cut short, a stream failed, or the close was refused; or 2 for bad words. `--version` alone
-/// prints the version.
+/// Runs the program over the words `DIR CAPACITY BLOCK` and settings, each `NAME=VALUE`, and gives its exit status, which is 0, 1 or 2.
+/// The status is 1 if the cache couldn't be opened, bytes were no frame, the input ended within a frame, a stream failed, or the close
+/// was refused. It is 2 for bad words. `--version` alone prints the version. The ledgers must fit `L` and have 2^32 parts each
+/// (`CoreBlanks::new`).
 ///
-/// Each request of the input is answered by one reply with its number: in order, except gets that other threads answer. Replies of the
-/// others are written out before more input is asked for.
+/// Each request of the input is answered by one reply with its number. Replies are in the order of their requests, except those to gets
+/// that other threads answer. Replies of the thread that reads requests are written out before it asks for more input.
 pub fn serve<L, T, B, R, W, E>(
     rt: T,
     alloc: Global,

@@ -15,7 +15,7 @@ use std::alloc::Global;
 use std::io::{Read, Write};
 use std::sync::{Mutex, Wait};
 
-// All went well; a frame was none or cut short, or a stream or the close failed.
+// All went well; or bytes were no frame, a frame was cut short, or a stream or the close failed.
 const STATUS_OK: u8 = 0;
 
 pub(crate) const STATUS_FAULT: u8 = 1;
@@ -25,7 +25,7 @@ pub(crate) const STATUS_FAULT: u8 = 1;
 enum Went {
     // All are answered.
     Well,
-    // One is none: no frame can be found behind it.
+    // Bytes are no frame. No later frame can be found.
     Badly,
 }
 
@@ -78,8 +78,9 @@ where
     Went::Badly
 }
 
-// Answers every request until the input ends or fails, bytes of it are no frame, or the output fails. Says whether all went well. Replies are
-// written out before more input is asked for, except those that other threads write.
+// Answers every request until the input ends or fails, bytes of it are no frame, or the output fails. Gives whether the input ended after
+// a whole frame and all replies could be written. Replies are written out before more input is read, except those that other threads
+// write.
 fn answer_all<S, N, R, O>(
     rt: &impl Wait,
     alloc: Global,
@@ -118,11 +119,11 @@ where
 pub(crate) enum Job {
     /// It answers the requests.
     Requests,
-    /// It answers gets that are left to it.
+    /// It answers gets that the thread of the requests leaves to it.
     Gets,
 }
 
-/// Answers the requests of an input, and closes the cache: the status.
+/// Answers the requests of an input, and then closes the cache. Gives the exit status.
 pub(crate) struct PipeTask<C: Clock, I: Read + Drop, O: Write + Drop> {
     alloc: Global,
     clock: C,
@@ -148,7 +149,8 @@ impl<C: Clock, I: Read + Drop, O: Write + Drop> Drop for PipeTask<C, I, O> {
 }
 
 impl<C: Clock, I: Read + Drop, O: Write + Drop> PipeTask<C, I, O> {
-    /// By this clock, with keys behind the bytes of this seed, of these frames, to this output, which has a buffer of its own.
+    /// Gives a task that answers the requests of these frames to this output, which must have a buffer of its own. The store gets each
+    /// key after the bytes of the seed.
     pub(crate) fn new(
         alloc: Global,
         clock: C,
@@ -166,7 +168,7 @@ impl<C: Clock, I: Read + Drop, O: Write + Drop> PipeTask<C, I, O> {
         }
     }
 
-    // Answers the requests, and says that no more gets come: whether all went well.
+    // Answers the requests, and then closes the queue of gets. Gives whether all went well.
     fn answer_requests<S, N>(&self, rt: &impl Wait, cache: &Cache<N>, session: &mut S) -> bool
     where
         S: Drop,

@@ -11,7 +11,7 @@ pub enum BuiltInCondition {
     AdmitAll(AdmitAll),
     /// Rejects each entry.
     RejectAll(RejectAll),
-    /// Throttled with the device.
+    /// Throttles if the device asks for a wait before the next write.
     IoThrottle(IoThrottle),
     /// Admits entries of some sizes.
     EstimatedSize(EstimatedSize),

@@ -65,8 +65,7 @@ impl Model for EstimatedSize {
 }
 
 impl EstimatedSize {
-    /// Sizes between these bounds. An included upper bound ends one above it, an excluded lower one begins one above it,
-    /// both at most at the greatest size; unbounded means 0 and the greatest size, which itself isn't admitted.
+    /// Admits the sizes within these bounds, except `usize::MAX`, which is never admitted.
     pub fn new(lower: Bound<usize>, upper: Bound<usize>) -> EstimatedSize
         ensures first { result.first ≡ first_of lower }
         ensures end { result.end ≡ end_of upper }

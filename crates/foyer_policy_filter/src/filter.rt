@@ -20,17 +20,17 @@ pub trait StorageFilterCondition: Drop {
     ghost use Rattle.foyer_device_statistics.specs.declared.state.IoState.{IoState};
     ghost use Rattle.foyer_policy_filter.specs.declared.verdict.StorageFilterResult.{StorageFilterResult};
 
-    // The answers that it may give, of what the device did, of a hash and of a size in bytes.
+    // The answers that it may give, given what the device did, a hash and a size in bytes.
     ghost may_answer: { Self → IoState → ℕ → ℕ → StorageFilterResult → Type 0 };
 
-    /// Its answer about an entry of that hash and estimated size, in bytes. It takes no lock.
+    /// Its answer about an entry of that hash and estimated size, in bytes. It is given no handle to wait for a lock.
     fn filter(&self, io: &IoState, hash: u64, size: usize) -> StorageFilterResult
         ensures { may_answer self.now io.now hash size result };
 }
 
 /// Conditions that are asked one after the other. Contracts see them as a list.
 pub struct StorageFilter<C, A: Allocator> {
-    // None until the first condition comes, with an allocator.
+    // None until the first condition is added, with an allocator.
     conditions: Option<Vec<C, A>>,
 }
 
@@ -86,8 +86,8 @@ impl<C: StorageFilterCondition, A: Allocator> StorageFilter<C, A> {
         StorageFilter { conditions: None }
     }
 
-    /// With a condition that is asked after the others. The first one's list keeps the allocator. Memory, and the filter is
-    /// dropped.
+    /// Adds a condition, which is asked after the others. The filter keeps the allocator of the first such call. Error:
+    /// Memory. Then the filter and the condition are dropped.
     pub fn with_condition(self, alloc: A, condition: C) -> Result<StorageFilter<C, A>>
         ensures added { IfOk result (λ f. f ≡ self ++ condition ∷ []) }
         ensures memory { OnErr result (result ≡ Err Memory) }
@@ -110,7 +110,7 @@ impl<C: StorageFilterCondition, A: Allocator> StorageFilter<C, A> {
         }
     }
 
-    /// What the conditions say together of an entry of that hash and estimated size, in bytes.
+    /// Gives the joint answer of the conditions about an entry of that hash and estimated size, in bytes.
     pub fn filter(&self, io: &IoState, hash: u64, size: usize) -> StorageFilterResult
         ensures { (answers : List StorageFilterResult)
             × AreAnswers (λ c a. C.may_answer c io.now hash size a) self.now answers
@@ -133,7 +133,7 @@ impl<C: StorageFilterCondition, A: Allocator> StorageFilter<C, A> {
     }
 }
 
-// Both waits, or the greatest there is.
+// The sum of both waits, at most the greatest duration.
 fn add_waits(wait: Duration, more: Duration) -> Duration
     ensures { as_nanos result ≡ min (as_nanos wait + as_nanos more) max_nanos }
 {

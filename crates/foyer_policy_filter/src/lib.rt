@@ -1,13 +1,13 @@
-//! Which entries are let in: a filter asks its conditions in order, of an entry's hash and size and of what the device
-//! did.
+//! Which entries are let in: a filter asks its conditions, in order, about an entry. A condition is given the entry's hash
+//! and size, and what the device did.
 //!
-//! The first condition that rejects is the answer. Else the waits of the throttled conditions are added up, and the sum saturates. The filter
-//! is throttled by the sum if it isn't zero, and admits if it is zero. So a throttled condition ends nothing, and a filter without conditions
-//! admits.
+//! If a condition rejects, the filter rejects, and asks no further. Else it adds up the waits of the throttled conditions, and the sum
+//! saturates. The filter is throttled by the sum if it isn't zero, and admits if it is zero. So a filter without conditions admits, and a
+//! throttled condition doesn't keep the filter from asking the next ones.
 //!
 //! Callers write conditions of their own as a `StorageFilterCondition`, whose interface names the answers that it may
-//! give. A filter is over one type of conditions: over `BuiltInCondition`, one of those here by value, over
-//! `AnyCondition`, which takes a boxed one too, or over any other.
+//! give. The conditions of a filter have one type: `BuiltInCondition`, which is one of those here; `AnyCondition`, which can
+//! also be a boxed one; or any other.
 #![tactic(auto)]
 
 pub mod any;

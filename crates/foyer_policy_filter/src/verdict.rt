@@ -11,7 +11,7 @@ pub enum StorageFilterResult {
     Admit,
     /// The entry isn't let in.
     Reject,
-    /// The device is throttled: the entry may be tried again once so much time has passed.
+    /// The device is throttled: the entry may be tried again once this much time has passed.
     Throttled(Duration),
 }
 

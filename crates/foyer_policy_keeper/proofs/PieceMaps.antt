@@ -157,7 +157,7 @@ module _ {K V P : Type 0} {eq : K → K → Bool} (laws : IsEquivalence eq) wher
   piece_under : (pieces : Pieces K V P) (key k : K) → eq key k ≡ true → piece_of eq pieces k ≡ piece_of eq pieces key
   piece_under pieces key k same = find_agree (λ r. eq r.piece.key k) (λ r. eq r.piece.key key) (λ r. same_test laws key k same r.piece.key) pieces
 
-  -- where nothing changes, a hash and a key have what they had
+  -- if nothing changes, a hash and a key have what they had
   pub unchanged : (old new : PieceMap K V P) (hash : ℕ) (key : K) (held : Option (Referred K V P)) → HoldsSame eq old new → piece_at eq old hash key ≡ held → ChangesAt eq old new hash key held
   unchanged old new hash key held same is = λ h k. same h k ∙ step h k (nat_eq hash h) (eq key k) refl refl
     where

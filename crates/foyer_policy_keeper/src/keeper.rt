@@ -13,7 +13,7 @@ use std::marker::Model;
 use std::sync::{Mutex, Wait};
 
 /// The pieces that aren't flushed yet, by hash and key. Contracts see how many shards it has. Threads share it by
-/// reference; each call takes the lock of one shard, and holds no other.
+/// reference. A call takes the lock of one shard at most.
 pub struct Keeper<K: Eq, V, P, A: Allocator> {
     shards: Vec<Mutex<Shard<K, V, P, A>>, A>,
 }
@@ -51,7 +51,7 @@ impl<'a, K: Eq, V, P, A: Allocator> ShardOf<'a, K, V, P, A> {
     }
 }
 
-// Which of so many shards a hash lies in.
+// Which of the shards a hash is in.
 fn place_of(hash: u64, shards: usize) -> usize
     requires { 0 < shards }
     ensures { result ≡ hash % shards }
@@ -59,7 +59,7 @@ fn place_of(hash: u64, shards: usize) -> usize
     (hash % shards as u64) as usize
 }
 
-// The shard of a hash. Contracts tell no lock from another, so that `place_of` says which one it is.
+// The shard of a hash. Contracts can't tell one lock from another, so `place_of` says which one it is.
 fn shard_of<K: Eq, V, P, A: Allocator>(
     shards: &[Mutex<Shard<K, V, P, A>>],
     hash: u64,
@@ -70,7 +70,7 @@ fn shard_of<K: Eq, V, P, A: Allocator>(
 }
 
 impl<K: Eq + Drop, V: Drop, P: Drop, A: Allocator + Clone> Keeper<K, V, P, A> {
-    /// A keeper of so many shards that has nothing. Memory is the only refusal.
+    /// Makes an empty keeper with this many shards, at least one. Error: Memory.
     pub fn new(alloc: A, shards: usize) -> Result<Keeper<K, V, P, A>>
         requires { shards ≢ 0 }
         ensures shards { IfOk result (λ keeper. keeper ≡ shards) }
@@ -92,7 +92,7 @@ impl<K: Eq + Drop, V: Drop, P: Drop, A: Allocator + Clone> Keeper<K, V, P, A> {
         shard_of(&self.shards, piece.hash()).lock(rt).insert(piece)
     }
 
-    /// Gives one more owner of the piece that is kept under a hash and a key, or what shows that no piece was kept. Errors: `Memory` if the
+    /// Gives one more owner of the piece that is kept under a hash and a key, or a proof that no piece was kept. Errors: `Memory` if the
     /// piece has 2^63 - 1 owners.
     pub fn get(
         &self,
@@ -107,15 +107,15 @@ impl<K: Eq + Drop, V: Drop, P: Drop, A: Allocator + Clone> Keeper<K, V, P, A> {
         shard_of(&self.shards, hash).lock(rt).get(hash, key)
     }
 
-    /// Gives what shows that no piece was kept under a hash and a key, if none was.
+    /// Gives a proof that no piece was kept under a hash and a key, or `None` if one was.
     pub fn lacks(&self, rt: &impl Wait, hash: u64, key: &K) -> Option<NotKept>
         ensures { IfSome result (λ shown. shown.hash ≡ hash) }
     {
         shard_of(&self.shards, hash).lock(rt).lacks(hash, key)
     }
 
-    /// Removes the piece that this keeper has under the hash and the key, if it has this very number. So a reference that was
-    /// made of a piece removes nothing, nor does one whose piece was replaced. It takes no memory.
+    /// Removes the kept piece of the reference's hash and key, if it has the reference's number. So a reference that no keeper
+    /// made removes nothing, nor does one whose piece was replaced. It takes no memory.
     pub fn release(&self, rt: &impl Wait, piece: PieceRef<K, V, P, A>) {
         shard_of(&self.shards, piece.hash())
             .lock(rt)

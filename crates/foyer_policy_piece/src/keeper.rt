@@ -43,7 +43,7 @@ impl<K, V, P, A: Allocator> Model for Piece<K, V, P, A> {
 }
 
 impl<K: Drop, V: Drop, P: Drop, A: Allocator> Piece<K, V, P, A> {
-    /// A piece of its own. Memory is the only refusal; the arguments are dropped then.
+    /// Makes a piece. Error: Memory. Then the arguments are dropped.
     pub fn new(alloc: A, key: K, value: V, hash: u64, properties: P) -> Result<Piece<K, V, P, A>>
         ensures ok { IfOk result (λ piece. piece ≡ record_of key value hash properties) }
         ensures refused { IsOkUnless result Error.Memory }
@@ -111,7 +111,7 @@ impl<K: Drop, V: Drop, P: Drop, A: Allocator> Clone for Piece<K, V, P, A> {
     }
 }
 
-/// A piece that a keeper may have. One that is dropped releases nothing.
+/// A piece that a keeper may have. Dropping this reference releases nothing.
 pub struct PieceRef<K, V, P, A: Allocator> {
     piece: Piece<K, V, P, A>,
     number: u64,
@@ -136,14 +136,14 @@ impl<K, V, P, A: Allocator> Model for PieceRef<K, V, P, A> {
 }
 
 impl<K, V, P, A: Allocator> PieceRef<K, V, P, A> {
-    /// A reference to the piece that a keeper has under this number. Keepers make them so.
+    /// Makes a reference to the piece that a keeper has under this number. This is for keepers.
     pub fn numbered(piece: Piece<K, V, P, A>, number: u64) -> PieceRef<K, V, P, A>
         ensures { result ≡ record { piece = piece; number = number } }
     {
         PieceRef { piece, number }
     }
 
-    /// Gives the number of the reference's insertion into a keeper, from 1 up. It is 0 if the reference was made of a piece.
+    /// Gives the number of the piece's insertion into a keeper, from 1 up, or 0 if no keeper made this reference.
     pub fn number(&self) -> u64
         ensures { result ≡ self.now.number }
     {
@@ -171,7 +171,7 @@ impl<K, V, P, A: Allocator> Deref for PieceRef<K, V, P, A> {
     }
 }
 
-/// A piece that no keeper was given, so that its release removes nothing.
+/// A reference that no keeper made. A release by it removes nothing.
 impl<K, V, P, A: Allocator> From<Piece<K, V, P, A>> for PieceRef<K, V, P, A> {
     ghost from_gives = { λ piece r. (r.piece ≡ piece) × (r.number ≡ 0) };
 

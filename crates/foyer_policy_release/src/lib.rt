@@ -1,7 +1,7 @@
-//! Releases pieces of their keeper, and shows that each was released by its own number.
+//! Releases pieces from their keeper, and proves that each was released by its own number.
 //!
-//! Nobody sees behind a keeper's locks, so no clause of a caller can say that a piece is gone. The value that a release gives says so: what
-//! makes it is a function whose contract sees the shard.
+//! Contracts don't see what a keeper's locks guard, so no clause of a caller can say that a piece is gone. Instead a release gives a value
+//! as proof. The only function that makes such a value has a contract that sees the shard.
 #![tactic(auto)]
 
 pub mod noted;

@@ -1,4 +1,4 @@
-//! The releases of several pieces, and what shows that none was left out.
+//! The releases of several pieces, and a proof that none was left out.
 ghost use Rattle.std.specs.Prelude.{◌≡◌, ◌+◌, ◌<◌, Some, slice_get, vec_len};
 ghost use Rattle.std.specs.Option.{ForSome};
 
@@ -6,7 +6,7 @@ use crate::shown::Released;
 use foyer_policy_piece::keeper::PieceRef;
 use std::alloc::Allocator;
 
-/// Pieces, of which so many, from the first on, were released.
+/// Pieces, and how many of them were released, from the first on.
 #[derive(Drop)]
 pub struct Releases<K, V, P, A: Allocator> {
     pieces: Vec<PieceRef<K, V, P, A>, A>,
@@ -20,14 +20,14 @@ pub struct AllReleased<K, V, P, A: Allocator> {
 }
 
 impl<K: Drop, V: Drop, P: Drop, A: Allocator> Releases<K, V, P, A> {
-    /// Of these pieces none yet.
+    /// Begins with these pieces, none of them released.
     pub fn new(pieces: Vec<PieceRef<K, V, P, A>, A>) -> Releases<K, V, P, A>
         ensures { (result.pieces ≡ pieces) × (result.count ≡ 0) }
     {
         Releases { pieces, count: 0 }
     }
 
-    /// The piece that is to be released next.
+    /// The piece to release next. One must be left.
     pub fn next(&self) -> &PieceRef<K, V, P, A>
         requires { self.now.count < vec_len self.now.pieces }
         ensures { slice_get self.now.pieces.items self.now.count ≡ Some result.now }
@@ -35,7 +35,7 @@ impl<K: Drop, V: Drop, P: Drop, A: Allocator> Releases<K, V, P, A> {
         &self.pieces[self.count]
     }
 
-    /// Notes its release.
+    /// Notes that the next piece was released. `released` must be of its hash and its number.
     pub fn note(&mut self, released: Released)
         requires some { self.old.count < vec_len self.old.pieces }
         requires own { ForSome (slice_get self.old.pieces.items self.old.count) (λ piece. (piece.piece.hash ≡ released.hash) × (piece.number ≡ released.number)) }
@@ -45,7 +45,7 @@ impl<K: Drop, V: Drop, P: Drop, A: Allocator> Releases<K, V, P, A> {
         self.count += 1;
     }
 
-    /// What shows that all were released.
+    /// Gives the proof that all pieces were released. None may be left.
     pub fn into_all(self) -> AllReleased<K, V, P, A>
         requires { self.count ≡ vec_len self.pieces }
         ensures { result.pieces ≡ self.pieces }

@@ -1,4 +1,4 @@
-//! Releases of pieces of their keeper.
+//! Releases of pieces from their keeper.
 ghost use Rattle.std.specs.Prelude.{◌≡◌};
 
 use crate::noted::{AllReleased, Releases};
@@ -9,7 +9,7 @@ use foyer_policy_piece::keeper::PieceRef;
 use std::alloc::Allocator;
 use std::sync::Wait;
 
-// Releases a piece of the shard that its hash lies in, under that shard's lock.
+// Releases a piece from the shard that its hash is in, under that shard's lock.
 fn release_at<K: Eq + Drop, V: Drop, P: Drop, A: Allocator + Clone>(
     rt: &impl Wait,
     shard: ShardOf<'_, K, V, P, A>,
@@ -22,7 +22,7 @@ fn release_at<K: Eq + Drop, V: Drop, P: Drop, A: Allocator + Clone>(
     release_from(&mut lock_spinning(lock, rt), piece)
 }
 
-/// Removes the piece that a keeper has under the hash and the key of this one, if it has this very number. It takes no memory.
+/// Removes the kept piece of the reference's hash and key, if it has the reference's number. It takes no memory.
 pub fn release<K: Eq + Drop, V: Drop, P: Drop, A: Allocator + Clone>(
     rt: &impl Wait,
     keeper: &Keeper<K, V, P, A>,
@@ -33,7 +33,7 @@ pub fn release<K: Eq + Drop, V: Drop, P: Drop, A: Allocator + Clone>(
     release_at(rt, keeper.shard(piece.hash()), piece)
 }
 
-/// Releases each of these pieces, in their order. It takes no memory, and gives the pieces back within what shows it.
+/// Releases each of these pieces, in order, and gives them within the proof. It takes no memory.
 pub fn release_all<K: Eq + Drop, V: Drop, P: Drop, A: Allocator + Clone>(
     rt: &impl Wait,
     keeper: &Keeper<K, V, P, A>,

@@ -1,4 +1,4 @@
-//! The release of a piece from its shard, and what shows it.
+//! The release of a piece from its shard, and a proof of it.
 ghost use Rattle.std.specs.Prelude.{◌≡◌};
 ghost use Rattle.foyer_policy_keeper.specs.PieceMap.{piece_at, without_number, ChangesAt};
 
@@ -6,14 +6,14 @@ use foyer_policy_keeper::keeper::shard::Shard;
 use foyer_policy_piece::keeper::PieceRef;
 use std::alloc::Allocator;
 
-/// What shows that a piece of this hash was released by this number: only a release gives one.
+/// A proof that a release was made by this hash and this number. Only `release_from` makes one.
 #[derive(Drop)]
 pub struct Released {
     hash: u64,
     number: u64,
 }
 
-/// Removes the piece that a shard has under the hash and the key of this one, if it has this very number.
+/// Removes the shard's piece of the reference's hash and key, if it has the reference's number.
 pub fn release_from<K: Eq + Drop, V: Drop, P: Drop, A: Allocator + Clone>(
     shard: &mut Shard<K, V, P, A>,
     piece: &PieceRef<K, V, P, A>,

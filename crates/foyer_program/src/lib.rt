@@ -1,4 +1,4 @@
-//! The program over a store with its workers: lines in, answers out. It passes on the store's crate.
+//! The program over a store with its workers: it reads lines and prints answers. This crate exports the store's crate, too.
 #![tactic(auto)]
 
 mod lines;

@@ -16,7 +16,7 @@ use std::io;
 use std::io::{Read, Write};
 use std::sync::Wait;
 
-// What a store of the program is.
+// The store that the program uses.
 pub(crate) type Texts<N> = Store<N, u64, String, NoProperties, IdentityHashBuilder>;
 
 // What a line is answered with.
@@ -111,7 +111,7 @@ fn reply_to<S: Drop, N: Engine<S, u64, String, NoProperties>>(
     }
 }
 
-// Answers a line: whether it went well.
+// Answers a line. Gives whether it was a command and no fault was printed.
 fn answer_line<S: Drop, N: Engine<S, u64, String, NoProperties>, W: Write>(
     rt: &impl Wait,
     alloc: Global,
@@ -133,7 +133,7 @@ fn answer_line<S: Drop, N: Engine<S, u64, String, NoProperties>, W: Write>(
     }
 }
 
-// Answers the lines that were read whole: whether all went well.
+// Answers the lines that were read whole. Gives whether all were commands and no fault was printed.
 fn answer_whole<S, N, R, W>(
     rt: &impl Wait,
     alloc: Global,
@@ -161,8 +161,8 @@ where
     Ok(is_well)
 }
 
-// Answers every line, until the input ends or fails, or the output fails: whether all went well. Answers are written out before
-// more input is asked for.
+// Answers every line, until the input ends or fails, or the output fails. Gives whether all lines were commands and no fault was printed.
+// Answers are written out before more input is read.
 pub(crate) fn answer_all<S, N, R, W>(
     rt: &impl Wait,
     alloc: Global,

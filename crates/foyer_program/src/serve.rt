@@ -28,7 +28,7 @@ use std::rt::Files;
 use std::sync::Wait;
 use std::thread::Threads;
 
-// The bytes of the output's buffer.
+// The size of the output's buffer in bytes.
 const OUTPUT_CAPACITY: usize = 64 * 1024;
 
 // Into how many shards the keeper is divided.
@@ -41,7 +41,7 @@ const STATUS_FAULT: u8 = 1;
 
 const STATUS_USAGE: u8 = 2;
 
-// Answers the input's lines, unless memory is refused for what reads and writes them: whether all went well.
+// Answers the input's lines, unless memory for their buffers is refused. Gives whether all went well.
 fn answer_lines<S, N, R, W>(
     rt: &impl Wait,
     alloc: Global,
@@ -103,8 +103,8 @@ fn answer_fault<W: Write + Drop>(mut output: W, kind: ErrorKind) -> u8 {
     STATUS_FAULT
 }
 
-// Builds a store over a device and I/O engines, and answers the input's lines. If the store can't be built, the call gives back the fault,
-// what failed, and the output.
+// Builds a store over a device and I/O engines, and answers the input's lines. If the clock can't be started or the store can't be built,
+// returns the fault, what failed, and the output.
 fn serve_over<L, T, I, D, R, W>(
     rt: T,
     alloc: Global,
@@ -161,19 +161,19 @@ where
     }
 }
 
-// What builds I/O engines over one memory of so many bytes.
+// Builds I/O engines over one memory of `capacity` bytes.
 fn memory(alloc: Global, capacity: usize) -> Result<SharedMemoryIoEngineConfig<Global>> {
     let mut engine = MemoryIoEngine::new(alloc);
     engine.add_file(alloc, capacity)?;
     SharedMemoryIoEngineConfig::new(alloc, engine)
 }
 
-/// Runs the program over the words `DIR CAPACITY BLOCK`, and gives its exit status, which is 0, 1 or 2. The status is 1 if a fault or a bad
-/// line was printed, an input or output failed, or the close at the end was refused. It is 2 for bad words. `--version` alone prints the
-/// version.
+/// Runs the program over the words `DIR CAPACITY BLOCK`, and gives its exit status, which is 0, 1 or 2. The status is 1 if a fault or a
+/// bad line was printed, an input or output failed, or the close at the end was refused. It is 2 for bad words. `--version` alone prints
+/// the version. The ledgers must fit `L` and have 2^32 parts each (`Blanks::new`).
 ///
-/// Each line of the input is answered by one line. Answers are written out before more input is asked for. If the directory can't be opened,
-/// a line of `errors` names it and what failed. The fault is answered as well.
+/// Each line of the input is answered by one line. Answers are written out before more input is asked for. If a directory, or the clock
+/// or the store over it, can't be opened, a line of `errors` names the directory and what failed. The fault is answered as well.
 pub fn serve<L, T, B, R, W, E>(
     rt: T,
     alloc: Global,
@@ -222,7 +222,7 @@ where
     }
 }
 
-// As `serve_over`, over memory: the status.
+// As `serve_over`, over memory. Gives the exit status.
 fn serve_memory<L, T, R, W>(
     rt: T,
     alloc: Global,

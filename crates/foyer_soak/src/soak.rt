@@ -1,4 +1,4 @@
-//! Threads that ask a store at once, each of keys of its own, and judge each answer by what they put last.
+//! Threads that call a store at once, each for keys of its own, and judge each answer by what they put last.
 ghost use Rattle.std.specs.Prelude.{◌≡◌, ◌≢◌, ◌^◌, length};
 ghost use Rattle.foyer_storage_cores_run.specs.CoreLedgers.{AreOfCores};
 
@@ -69,7 +69,7 @@ impl Found {
     }
 }
 
-// A plan for each thread, of keys of its own. Memory.
+// A plan for each thread, for keys of its own, but for at most 1024 threads. Errors: `Memory`.
 fn plans_of(alloc: Global, threads: u64, plan: Plan) -> Result<Vec<Plan>> {
     let mut plans = Vec::new(alloc);
     for number in 0..threads.min(MOST_THREADS) {
@@ -81,7 +81,7 @@ fn plans_of(alloc: Global, threads: u64, plan: Plan) -> Result<Vec<Plan>> {
     Ok(plans)
 }
 
-// How a store is asked: by a thread for each plan.
+// Has a thread for each plan call a store.
 #[derive(Clone, Copy)]
 struct SoakTask {
     alloc: Global,
@@ -145,7 +145,7 @@ impl<R: Wait> StoreTask<R, u64, Vec<u8>, NoProperties, IdentityHashBuilder> for 
     }
 }
 
-// What a core lies in.
+// The device and the I/O engines of a core.
 #[derive(Drop)]
 struct Place<D: Drop, I: Drop> {
     device: D,
@@ -172,7 +172,7 @@ fn builders_of<D: Device, I: Drop>(
     Ok(builders)
 }
 
-// Opens a store over these places, one for each core, and asks it.
+// Opens a store over these places, one for each core, and calls it.
 fn soak_over<L, T, I, D>(
     rt: T,
     alloc: Global,
@@ -206,7 +206,7 @@ where
     )?
 }
 
-// How a store is asked, and over how many cores.
+// How many threads call a store, how, and over how many cores.
 #[derive(Clone, Copy)]
 struct Asked {
     threads: u64,
@@ -236,7 +236,7 @@ fn numbers<B: Allocator>(words: &[String<B>]) -> Option<Asked> {
     })
 }
 
-// What was found: whether all went well on the output, and the numbers, which depend on the schedule, among the errors.
+// Prints to the output whether all went well, and to `errors` the numbers, which depend on the schedule. Gives the exit status.
 fn print_found<W: Write, E: Write>(output: &mut W, errors: &mut E, found: Found) -> io::Result<u8> {
     let Found {
         calls,
@@ -256,10 +256,11 @@ fn print_found<W: Write, E: Write>(output: &mut W, errors: &mut E, found: Found)
     Ok(1)
 }
 
-/// Runs the words `DIR CAPACITY BLOCK THREADS CALLS SEED CORES`. This many threads ask one store of this many cores. Each thread makes this
-/// many calls, for keys of its own, and judges each answer by what it put last. The call gives the exit status: 0, or 2 for bad words. The
-/// status is 1 if an answer was wrong, a call was refused or the store couldn't be built. A value that an earlier run left in the directory
-/// may be found.
+/// Runs the words `DIR CAPACITY BLOCK THREADS CALLS SEED CORES`. This many threads, but at most 1024, call one store of this many cores.
+/// Each thread makes this many calls, for keys of its own, and judges each answer by what it put last. For a key that it hasn't put or
+/// deleted yet, it accepts a value of an earlier run over the directory. It gives the exit status: 0, or 2 for bad words. The status is 1
+/// if an answer was wrong, a call was refused, the output failed, or the store couldn't be built or closed. The ledgers must fit `L` and
+/// have 2^32 parts each (`CoreBlanks::new`).
 pub fn soak<L, T, B, W, E>(
     rt: T,
     alloc: Global,

@@ -1,4 +1,4 @@
-//! The engine that threads share, its workers, what it is built of, and the sizes that one is planned of.
+//! The engine that threads share, its workers, what it is built of, and its sizes.
 pub use foyer_block::block::recover::RecoverMode;
 pub use foyer_storage_build::config::{
     BlockEngineConfig, BlockFlusher, BlockListings, BlockOpening, BlockReclaimer, BlockRecoverer,

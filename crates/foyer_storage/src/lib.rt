@@ -1,10 +1,10 @@
 //! The disk half of a hybrid cache: the engine's public names, under their modules' paths and here at the root.
 //!
-//! A door: it passes on what the six doors below it have, the store of `foyer_storage_build` with its engine, the engine on one
-//! thread of `foyer_storage_local`, and the sizes of `foyer_storage_plan`; it has no code of its own.
-//! Types with one name in two modules stand here once: `Batch` is the buffer's, `Block` the manager's, `Sequence` the one of
-//! `block::serde`, `Enqueued`, `Load` and `Populated` those of the engine that threads share. A user who cites definitions lists
-//! the crate that has them too.
+//! It has no code of its own. It re-exports names of `foyer_block`, `foyer_core`, `foyer_device`, `foyer_format`, `foyer_io` and
+//! `foyer_policy`. It also re-exports the store of `foyer_storage_build` with its engine, the engine on one thread of
+//! `foyer_storage_local`, and the sizes of `foyer_storage_plan`. If types of two modules have one name, only one of them is at the root.
+//! `Batch` is the buffer's, `Block` the manager's, and `Sequence` that of `block::serde`. `Enqueued`, `Load` and `Populated` are those of
+//! the engine that threads share. If you cite a definition, list its crate too.
 #![tactic(auto)]
 
 pub mod block;

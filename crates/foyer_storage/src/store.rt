@@ -1,4 +1,4 @@
-//! The store: a keeper of the pieces that aren't written yet, before an engine.
+//! The store: a keeper of the pieces that aren't written yet, in front of an engine.
 pub use foyer_storage_build::builder::StoreBuilder;
 pub use foyer_storage_build::cores::engines::{TwoEngines, is_high};
 pub use foyer_storage_build::cores::kinds::{CoreBlanks, CoreKinds};

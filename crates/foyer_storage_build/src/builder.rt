@@ -46,7 +46,8 @@ impl<H: Drop, N: Drop, I: Drop> Debug for StoreBuilder<H, N, I> {
 }
 
 impl<H: Drop> StoreBuilder<H, NoopEngineConfig, PsyncIoEngineConfig> {
-    /// A store of this name, which is only kept, whose keys are hashed so, and whose keeper has so many shards.
+    /// Begins a store with this name, this hasher of keys, and this many shards of its keeper. `build` gives `Config` for 0 shards. The
+    /// store only keeps the name.
     pub fn new(
         name: &'static str,
         hasher: H,
@@ -272,10 +273,11 @@ impl<H: Drop, N: Drop, I: Drop> StoreBuilder<H, N, I> {
         self.engine.is_noop()
     }
 
-    /// The store, a session with all parts that its workers don't have, and the workers, which run. The threads of the recovery
-    /// end before. The clock gives the moments at which reclaims ask their filter; the moments of the device's builder and of each call
-    /// count from the same origin (`SystemClock`). `Config` without a shard; `Unsupported` with a compression; else as the engine's config
-    /// refuses, or Memory, if a worker's thread can't be started: then those that were are joined.
+    /// Opens the store. Gives the store, a session with all parts that its workers don't have, and the workers, which run. The recovery's
+    /// threads have ended. The ledgers must fit `L` and have 2^32 parts (`Blanks::new`). The clock gives the moments at which reclaims
+    /// ask their filter. The moments of the device's builder and of each call must count from the same origin (`SystemClock`). Errors, in
+    /// this order: `Config` without a shard; `Unsupported` with a compression; those of the engine's config. `Memory` may also mean that
+    /// a worker's thread can't be started. Then those that were started are joined.
     pub fn build<
         R: Threads + Wait + Copy + Send + 'static,
         T: Clock,
@@ -335,10 +337,10 @@ impl<H: Drop, N: Drop, I: Drop> StoreBuilder<H, N, I> {
         running.into_store(&rt, alloc, name, hasher, keeper)
     }
 
-    /// The engine of a store of several cores, one for each: `beside` puts another one beside it, and
-    /// `RunningEngine::into_store` makes the store, of a name, a hasher and the keeper that all of them were opened with. So of this
-    /// builder's own settings the engine's and the I/O engines' config, the compression and the recovery's mode are taken. Each core has a
-    /// device and ledgers of its own. Refused as `build` is.
+    /// Opens the engine of one core of a store of several cores. `beside` makes one engine of two, and `RunningEngine::into_store` makes
+    /// the store. All engines and the store must have the same keeper. Each core must have a device and ledgers of its own. Of this
+    /// builder it takes only the engine's and the I/O engines' configs, the compression and the recovery's mode. Errors: those of
+    /// `build`, but it doesn't look at the number of shards.
     pub fn open_engine<
         R: Threads + Wait + Copy + Send + 'static,
         T: Clock,

@@ -33,11 +33,11 @@ use std::sync::Arc;
 /// What an engine is built with, beside its own config.
 #[derive(Drop)]
 pub struct EngineBuildContext<I: Drop, T: Clock> {
-    /// What builds an I/O engine for each worker, for the log, and for all other callers.
+    /// What builds an I/O engine for each worker, for the log, and for each disk that loads read from.
     pub io_engine_config: I,
     /// What an opening does with what it finds.
     pub recover_mode: RecoverMode,
-    /// What gives the moment.
+    /// The clock.
     pub clock: T,
     /// The seed of the generator that chooses a block if no picker picks one.
     pub generator: u64,
@@ -50,7 +50,7 @@ pub struct Built<N: Drop, F: Drop, W: Drop, S: Drop> {
     pub engine: N,
     /// The session.
     pub session: S,
-    /// What its workers and its callers tell one another.
+    /// The bells and waits by which its workers and its callers wait for one another.
     pub signals: Arc<Signals<Global>, Global>,
     /// A worker for each flusher.
     pub flushers: Vec<F>,
@@ -91,7 +91,7 @@ pub trait EngineConfig<R: Copy, X: Drop, S: Drop, K: Eq, V, P>: Sized + Drop {
     /// A flusher's worker.
     type Flusher: Drop;
 
-    /// A reclaimer's.
+    /// A reclaimer's worker.
     type Reclaimer: Drop;
 
     /// What is left of a config and of what it is built with, once its device is divided.
@@ -100,7 +100,7 @@ pub trait EngineConfig<R: Copy, X: Drop, S: Drop, K: Eq, V, P>: Sized + Drop {
     /// A worker of the recovery.
     type Recoverer: Drop;
 
-    /// What one listed.
+    /// What a worker of the recovery listed.
     type Listed: Drop;
 
     // Which opening it begins, of what it is built with.
@@ -127,11 +127,12 @@ pub trait EngineConfig<R: Copy, X: Drop, S: Drop, K: Eq, V, P>: Sized + Drop {
         ensures begun { IfOk result (λ r. may_begin self context r.opening) }
         ensures refused { IfErr result (λ e. may_refuse self context e) };
 
-    /// The opening with what a worker of its recovery listed: of each block the listing that is there first stays.
+    /// Adds what a worker of the recovery listed to the opening. If a block has a listing already, that one stays.
     fn add(opening: Self::Opening, listed: Self::Listed) -> Self::Opening
         ensures kept { (config : Self) (context : X) → may_begin config context opening → may_begin config context result };
 
-    /// The engine of an opening, whose workers aren't started either. Blocks that no worker listed it reads by itself.
+    /// Builds the engine of an opening, and doesn't start its workers either. It reads the blocks that no worker listed. The ledgers must
+    /// fit the config. It is refused as the engine's own config says.
     fn build(
         opening: Self::Opening,
         rt: R,

@@ -1,6 +1,6 @@
 //! What a store and its engine are built of.
 //!
-//! It passes on the store and its engine's threads, so that whoever builds one lists this crate alone.
+//! It re-exports the store and its engine's threads, so that a crate that builds a store needs to list this crate alone.
 #![tactic(auto)]
 
 pub mod builder;

@@ -1,4 +1,4 @@
-//! Engines that run: one with its workers, or several beside each other.
+//! Engines that run: one with its workers, or several as one.
 ghost use Rattle.std.specs.Arc.{arc_value};
 ghost use Rattle.std.specs.Prelude.{◌≡◌, ◌⊎◌, ◌<◌, ◌||◌, ◌^◌, IfErr, IfOk, Err, min};
 ghost use Rattle.foyer_device_page.specs.declared.error.Error.TheVariants as error;
@@ -18,16 +18,16 @@ use std::alloc::Global;
 use std::sync::{Arc, Wait};
 use std::thread::Threads;
 
-// The value of the bit by which two engines of one core each are told apart.
+// The value of the bit that distinguishes two engines of one core each.
 const FIRST_BIT: u64 = 1 << 63;
 
-/// The threads of a store's engine, which its sessions are joined with at its end.
+/// The threads of a store's engine. At the end they are joined, and their sessions are joined with the caller's.
 pub trait JoinWorkers<S: Drop>: Drop {
     // What a session is with those of the threads.
     ghost may_join: { Self → S → S → Type 0 };
 
-    /// Has the threads do what is left to do and end; joins them, and their sessions into this one, which keeps its briefs. It comes after
-    /// the store's `close`: what is queued later may not be written, and no wait lasts.
+    /// Lets the threads finish what is left to do, and joins them. Joins their sessions into this one, which keeps its own briefs. Call
+    /// the store's `close` before: what is queued later may not be written, and later waits wait for nothing.
     fn join<R: Threads + Wait>(self, rt: &R, session: S) -> S
         ensures { may_join self session result };
 }
@@ -47,9 +47,9 @@ impl<L: Kinds> JoinWorkers<StoreSession<L>> for Workers<L> {
 /// The threads of two engines.
 #[derive(Drop)]
 pub struct TwoWorkers<W: Drop, X: Drop> {
-    /// Of the one.
+    /// The threads of the first engine.
     pub low: W,
-    /// Of the other.
+    /// The threads of the second engine.
     pub high: X,
 }
 
@@ -76,7 +76,7 @@ pub struct RunningEngine<N: Drop, S: Drop, W: Drop> {
     pub(crate) is_enabled: bool,
     pub(crate) statistics: Arc<Statistics<Global>, Global>,
     pub(crate) throttle: Throttle,
-    // The value of the bit that tells it from another one beside it.
+    // The value of the bit that distinguishes it from another engine beside it.
     bit: u64,
     ghost some_bit: { 0 < bit },
 }
@@ -106,8 +106,8 @@ impl<N: Drop, S: Drop, W: Drop> RunningEngine<N, S, W> {
         }
     }
 
-    /// A store over it, of this name, whose keys are hashed so, and which keeps its pieces in this keeper. `Memory`: then its threads are
-    /// joined.
+    /// Makes a store over it, with this name, this hasher of keys and this keeper. The keeper must be the one that the engine was opened
+    /// with. Errors: `Memory`. Then the engine's threads are joined.
     pub fn into_store<R, K, V, P, H>(
         self,
         rt: &R,
@@ -150,8 +150,9 @@ impl<N: Drop, S: Drop, W: Drop> RunningEngine<N, S, W> {
     }
 }
 
-/// Both engines as one, of which each has the hashes of one side. If one was refused it is refused so, the first one's refusal first, and
-/// the other's threads are joined. A store's counters are those of both; its `statistics` and `throttle` are those of the first's device.
+/// Makes one engine of two, each of which has the hashes of one side. Errors: that of an engine that was refused, the first one's if both
+/// were. Then the threads of an engine that runs are joined. A store's counters are those of both engines. Its `statistics` and
+/// `throttle` are those of the first engine's device.
 pub fn beside<R, N, S, W, M, T, X>(
     rt: &R,
     low: Result<RunningEngine<N, S, W>>,

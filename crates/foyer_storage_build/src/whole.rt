@@ -18,7 +18,7 @@ impl<L: Kinds> Drop for WholeSession<L> {
 }
 
 impl<L: Kinds> WholeSession<L> {
-    /// Of a session that has all.
+    /// Makes one of a session that has all 2^32 parts.
     pub fn new(steps: Session<L>) -> WholeSession<L>
         requires { steps.shares.parts ≡ 2 ^ 32 }
         ensures { result.steps ≡ steps }

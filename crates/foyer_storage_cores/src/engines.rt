@@ -19,8 +19,8 @@ use std::sync::Wait;
 // Odd, and near 2^64 divided by the golden ratio.
 const SPREAD: u64 = 11400714819323198485;
 
-/// Whether a hash belongs to the second of two engines that are told apart by the bit of this value. It is a bit of the hash times an
-/// odd number, so that keys whose hashes stand side by side are divided, too.
+/// Says whether a hash belongs to the second of two engines. It does if the bit of value `bit` is 1 in the hash times an odd constant. So
+/// keys whose hashes are adjacent are divided, too. `bit` must not be 0.
 pub fn is_high(hash: u64, bit: u64) -> bool
     requires { 0 < bit }
     ensures { result ≡ is_high hash bit }
@@ -48,8 +48,8 @@ fn summed(low: DeviceSummary, high: DeviceSummary) -> DeviceSummary
     }
 }
 
-/// Two engines, each of which has the hashes of one side. What a call does of one hash, it does in that hash's engine alone; a wait, a
-/// close and a destroy go to both in turn, to the second also if the first refused.
+/// Two engines, each of which has the hashes of one side. A call for one hash goes to that hash's engine alone. A wait, a close and a
+/// destroy go to both in turn, to the second even if the first gives an error. The first error is the answer.
 #[derive(Drop)]
 pub struct TwoEngines<N: Drop, M: Drop> {
     bit: u64,
@@ -59,7 +59,7 @@ pub struct TwoEngines<N: Drop, M: Drop> {
 }
 
 impl<N: Drop, M: Drop> TwoEngines<N, M> {
-    /// Of two engines that the bit of this value tells apart.
+    /// Makes one engine of two. `is_high` with this bit says which one has a hash. `bit` must not be 0.
     pub fn new(bit: u64, low: N, high: M) -> TwoEngines<N, M>
         requires { 0 < bit }
         ensures { (result.bit ≡ bit) × (result.low ≡ low) × (result.high ≡ high) }

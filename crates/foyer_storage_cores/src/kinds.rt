@@ -5,7 +5,7 @@ ghost use Rattle.foyer_storage_cores.specs.CoreLedgers.{HaveParts};
 use foyer_core_tally::book::{Blanks, Kinds};
 use std::marker::PhantomData;
 
-/// The ledgers of the core of a number: of the names of `L` eight for each core, in the order of the cores.
+/// The ledgers of core number `I`. The names of `L` are eight for each core, in the order of the cores.
 pub struct CoreKinds<L, const I: u8> {
     of: PhantomData<L>,
 }
@@ -37,7 +37,7 @@ impl Drop for CoreBlanks {
 }
 
 impl CoreBlanks {
-    /// Of so many parts each.
+    /// Makes new ledgers of this many parts each.
     pub fn new(parts: u64) -> CoreBlanks
         ensures { HaveParts parts result.first × HaveParts parts result.second × HaveParts parts result.third × HaveParts parts result.fourth }
     {
@@ -49,7 +49,7 @@ impl CoreBlanks {
         }
     }
 
-    /// Those of each core.
+    /// Gives the ledgers of each core.
     pub fn into_parts(self) -> (Blanks, Blanks, Blanks, Blanks)
         ensures { (result.0 ≡ self.first) × (result.1 ≡ self.second) × (result.2 ≡ self.third) × (result.3 ≡ self.fourth) }
     {

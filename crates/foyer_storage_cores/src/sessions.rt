@@ -11,14 +11,14 @@ pub trait CallerSession: Sized + Drop {
     // Of how many parts it is, in the core in which it has the fewest.
     ghost parts_of: { Self → ℕ };
 
-    /// Of how many parts it is, in the core in which it has the fewest.
+    /// How many parts it has, in the core in which it has the fewest.
     fn parts(&self) -> u64
         ensures { result ≡ parts_of self.now };
 
     /// How many steps of each kind were noted with it in all cores, in the order of the kinds; 2^64 - 1 stands for all numbers above.
     fn tally(&self) -> [u64; 8];
 
-    /// Gives so many parts of each core away.
+    /// Splits off a session that has `parts` parts in each core. `parts` must be at least 1, and fewer than this one has in any core.
     fn split(&mut self, parts: u64) -> Self
         requires some { 0 < parts }
         requires fewer { parts < parts_of self.old }
@@ -50,7 +50,7 @@ impl<L: Kinds> CallerSession for StoreSession<L> {
     }
 }
 
-// Number by number.
+// The sums, number by number, each 2^64 - 1 at most.
 fn summed(low: [u64; 8], high: [u64; 8]) -> [u64; 8] {
     let mut sums = low;
     for (sum, more) in sums.iter_mut().zip(high) {
@@ -62,9 +62,9 @@ fn summed(low: [u64; 8], high: [u64; 8]) -> [u64; 8] {
 /// The sessions of two engines.
 #[derive(Drop)]
 pub struct TwoSessions<S: Drop, T: Drop> {
-    /// Of the one.
+    /// The session of the first engine.
     pub low: S,
-    /// Of the other.
+    /// The session of the second engine.
     pub high: T,
 }
 

@@ -11,7 +11,7 @@ use std::sync::Wait;
 use std::thread;
 use std::thread::Threads;
 
-// A thread's session, its job until it is called, and then its report.
+// A thread's session, its job until the thread begins it, and its report once the job is done.
 #[derive(Drop)]
 struct Seat<S: Drop, J: Drop, Y: Drop> {
     session: S,
@@ -48,7 +48,7 @@ fn seats_of<S: CallerSession, J: Drop, Y: Drop>(
     Ok(seats)
 }
 
-// The reports, whose sessions are taken in. Memory.
+// Gives the reports, and joins the seats' sessions into this one. Errors: `Memory`.
 fn reports_of<S: CallerSession, J: Drop, Y: Drop>(
     alloc: Global,
     session: &mut S,
@@ -151,7 +151,7 @@ where
     Ok((shared, reports))
 }
 
-/// Does a task with a store. If it can't begin, or for memory, it isn't ended, and the store is closed.
+/// Does a task with a store. If the task can't begin, or memory is refused, its `end` isn't called, and the store is closed.
 pub(crate) fn do_task<R, K, V, P, H, U, N, S>(
     rt: &R,
     alloc: Global,

@@ -1,6 +1,6 @@
-//! A store of as many cores as are asked for at run time, and the threads that call it. It passes on what a store is built of.
+//! A store of one core, two or four, as chosen at run time, and the threads that call it. It re-exports what a store is built of.
 //!
-//! Whoever calls such a store says what each thread does, for any engine. That a core's engine may be shared is shown here alone.
+//! Whoever calls such a store says what each thread does, for any engine. This crate alone proves that threads may share a core's engine.
 #![tactic(auto)]
 
 mod calls;

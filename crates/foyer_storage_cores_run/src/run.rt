@@ -23,14 +23,14 @@ use std::rt::Files;
 use std::sync::{Arc, Wait};
 use std::thread::Threads;
 
-// The same keeper. Memory.
+// One more owner of the same keeper. Errors: `Memory`.
 fn shared<K: Eq + Drop, V: Drop, P: Drop>(
     keeper: &Arc<Keeper<K, V, P, Global>, Global>,
 ) -> Result<Arc<Keeper<K, V, P, Global>, Global>> {
     Ok(Arc::try_clone(keeper)?)
 }
 
-// How many cores a store can have.
+// Whether a store can have this many cores.
 fn is_core_count(cores: usize) -> bool
     ensures { MatchBool result ((cores ≡ 1) ⊎ ((cores ≡ 2) ⊎ (cores ≡ 4))) ((cores ≢ 1) × ((cores ≢ 2) × (cores ≢ 4))) }
 {
@@ -109,13 +109,16 @@ where
     )
 }
 
-/// Opens a store of this name over as many cores as there are builders, one, two or four, with a keeper of so many shards, does a task
-/// with it by a thread for each job, and joins the store's own threads. Of each builder the engine's and the I/O engines' config, the
-/// compression and the recovery's mode are taken. `Config` for another number of builders, or without a shard; else refused as a
-/// builder is, or as the task begins, or `Memory`, also for more jobs than a session has parts. Then the task isn't ended.
+/// Opens a store over as many cores as there are builders: one, two or four. The store has this name and hasher, and a keeper of `shards`
+/// shards. It does a task with the store, by a thread for each job, and joins the store's own threads. Of each builder it takes only the
+/// engine's and the I/O engines' configs, the compression and the recovery's mode. The ledgers must fit `L` and have 2^32 parts each
+/// (`CoreBlanks::new`).
 ///
-/// The caller's own thread does the last job. If no thread can be made for another, it is done once later ones have ended. So a job may
-/// wait for the last one, and for no other.
+/// Errors: `Config` for another number of builders, or without a shard; those of `StoreBuilder::open_engine`; that of the task's `begin`;
+/// `Memory`, also if there are as many jobs as the session has parts, or more. After an error the task's `end` wasn't called.
+///
+/// The caller's own thread does the last job. If no thread can be made for another job, that job is done once the later ones have ended.
+/// So a job may wait for the last one, and for no other.
 pub fn run_over_cores<R, T, L, K, V, P, H, O, D, S, C, G, I, U>(
     rt: R,
     alloc: Global,

@@ -1,4 +1,4 @@
-//! What threads do with a store, of however many cores it is.
+//! What threads do with a store, whatever its number of cores.
 use foyer_device_page::error::Result;
 use foyer_storage_build::config::Engine;
 use foyer_storage_build::cores::sessions::CallerSession;
@@ -10,19 +10,20 @@ pub trait StoreTask<R, K: Eq, V, P, H: Drop>: Sized + Drop {
     /// What its threads share, beside the store.
     type Shared: Drop;
 
-    /// What a thread is to do.
+    /// What a thread must do.
     type Job: Drop;
 
     /// What a thread gives back.
     type Report: Drop;
 
-    /// What comes of all.
+    /// What the whole task gives.
     type Output: Drop;
 
-    // What may come of it.
+    // Which outputs the task may give.
     ghost may_end: { Self → Self.Output → Type 0 };
 
-    /// What is done before the threads start, as soon as the store is open.
+    /// What is done before the threads start, as soon as the store is open. After an error no thread starts, `end` isn't called, and the
+    /// store is closed.
     fn begin<S, N>(
         &self,
         rt: &R,
@@ -46,8 +47,8 @@ pub trait StoreTask<R, K: Eq, V, P, H: Drop>: Sized + Drop {
         S: CallerSession,
         N: Engine<S, K, V, P>;
 
-    /// What is done once the threads have ended, with the reports in the order of the jobs. It closes the store, whose own threads are
-    /// joined afterwards. The session has all parts again, and what was noted with it.
+    /// What is done once the threads have ended, with the reports in the order of the jobs. It must close the store. The store's own
+    /// threads are joined afterwards. The session has the threads' parts again, and counts their steps.
     fn end<S, N>(
         self,
         rt: &R,

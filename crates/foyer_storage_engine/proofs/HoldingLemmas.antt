@@ -79,7 +79,7 @@ refused_is_other asked.DestroyClear why = refl
 refused_is_other (asked.DestroyCleaned block outcome) why = refl
 refused_is_other asked.Close why = refl
 
--- a step that is made again where it was refused, and then is not
+-- a step that is made again if it was refused, and then isn't refused
 counts_step : (old between new : SessionState) (given : StepBrief) (answer : ReplyBrief)
     → HoldsBut given old between → new.shares.amounts ≡ grown (kind_in given answer) between.shares.amounts → CountsEnds between new given → CountsStep old new given answer
 counts_step old between new given answer held counted ends = record {
@@ -113,7 +113,7 @@ pub destroys_by_step : (old new : SessionState) (given : StepBrief) (answer : Re
 destroys_by_step old new given answer is unclosed steps = (tally_by_step old new given answer is steps, steps.unclosed unclosed)
 
 module _ {K V P A : Type 0} where
-  -- one step, or none where its note found no room
+  -- one step, or none if its note found no room
   abbrev AtMostOne : (keeps : Bool) (old new : SessionState) (given : Step K V P A) (answer : Reply K V P A) → Type 0
   AtMostOne keeps old new given answer = IsNotedIn old new given answer ⊎ ((keeps ≡ true) × (answer ≡ reply.Refused kind.Memory given) × (new ≡ old))
 
@@ -132,7 +132,7 @@ module _ {K V P A : Type 0} where
   destroys_by_made keeps old new given answer is (inl noted) = noted.ends.kept is
   destroys_by_made keeps old new given answer is (inr none) = ap (λ (s : SessionState). s.destroys) none.2
 
-  -- a step that is made again where it was refused for memory, and then isn't
+  -- a step that is made again if it was refused for memory, and then isn't refused for it
   pub counts_made : (keeps : Bool) (old between new : SessionState) (given : Step K V P A) (answer : Reply K V P A) → HoldsBut (step_brief given) old between
       → (IsNotedIn between new given answer ⊎ ((keeps ≡ true) × (answer ≡ reply.Refused kind.Memory given) × (new ≡ between)))
       → ((back : Step K V P A) → answer ≡ reply.Refused kind.Memory back → ⊥) → CountsStep old new (step_brief given) (reply_brief answer)

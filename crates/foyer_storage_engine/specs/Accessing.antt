@@ -8,8 +8,8 @@ use Rattle.foyer_core_shared.specs.Ticket.{Ticket}
 use Rattle.foyer_device_page.specs.declared.error.Error.{Error}
 use Rattle.foyer_io_disk.specs.Disk.{IsRead, SurelyCame}
 
--- These bytes stand where the ticket says, if contracts see what the disk has. Or the read failed with an error that the disk may answer
--- there.
+-- These bytes are stored where the ticket says, if contracts see what the disk has. Or the read failed with an error that the disk may
+-- answer there.
 pub record IsReadBy {D A : Type 0} (is_known : D → Type 0) (byte_at : D → ℕ → ℕ → ℕ) (may_answer : D → ℕ → ℕ → ℕ → Error → Type 0) (ticket : Ticket) (came : Result (Vec ℕ A) Error) : Type 0 where
   pub disk : D
   pub read : is_known disk → IfOk came (λ bytes. IsRead (byte_at disk) ticket.address.block ticket.address.offset bytes.items)

@@ -1,4 +1,4 @@
-//! What replies are answered as.
+//! The answers of an engine's calls, by the core's replies.
 ghost use Rattle.std.specs.Prelude.{◌≡◌, Bool, IfErr, false, true};
 ghost use Rattle.foyer_core_shared.specs.Briefs.{reply_brief};
 ghost use Rattle.foyer_core_shared.specs.Replies.{is_delete_reply, is_end_reply, is_enqueue_reply, is_look_up_reply, is_question_reply};
@@ -12,7 +12,8 @@ use foyer_core_shared::core_steps::reply::Reply;
 use foyer_device_page::error::{Error, Result};
 use std::alloc::Allocator;
 
-/// What the last step of a load is answered as.
+/// Gives a load's answer, by the reply to its last step: an entry, `Throttled` or a miss. Errors: that of a refusal; `Unsupported` for
+/// any other reply.
 pub fn load_of<K: Drop, V: Drop, P: Drop, A: Allocator>(
     reply: Reply<K, V, P, A>,
 ) -> Result<Load<K, V, P, A>>
@@ -33,7 +34,7 @@ pub fn load_of<K: Drop, V: Drop, P: Drop, A: Allocator>(
     }
 }
 
-/// What an enqueue's reply is answered as.
+/// Gives an enqueue's answer, by its reply. Errors: that of a refusal; `Unsupported` for another step's reply.
 pub fn enqueued_of<K: Drop, V: Drop, P: Drop, A: Allocator>(
     reply: Reply<K, V, P, A>,
 ) -> Result<Enqueued>
@@ -49,7 +50,7 @@ pub fn enqueued_of<K: Drop, V: Drop, P: Drop, A: Allocator>(
     }
 }
 
-/// What a delete's reply is answered as.
+/// Gives a delete's answer, by its reply. Errors: that of a refusal; `Unsupported` for another step's reply.
 pub fn deleted_of<K: Drop, V: Drop, P: Drop, A: Allocator>(reply: Reply<K, V, P, A>) -> Result<()>
     ensures answer { result ≡ deleted_as (reply_brief reply) }
     ensures refused { is_delete_reply reply ≡ true → IfErr result (λ e. is_draw_error e ≡ true) }
@@ -61,7 +62,7 @@ pub fn deleted_of<K: Drop, V: Drop, P: Drop, A: Allocator>(reply: Reply<K, V, P,
     }
 }
 
-/// What a question's reply is answered as.
+/// Gives a question's answer, by its reply. Errors: that of a refusal; `Unsupported` for another step's reply.
 pub fn answer_of<K: Drop, V: Drop, P: Drop, A: Allocator>(reply: Reply<K, V, P, A>) -> Result<bool>
     ensures answer { result ≡ asked_as (reply_brief reply) }
     ensures refused { is_question_reply reply ≡ true → IfErr result (λ e. is_question_error false e ≡ true) }

@@ -1,4 +1,4 @@
-//! A bell: threads wait at it until something moved.
+//! A bell: a count of moves. Threads wait at it until the count changes.
 ghost use Rattle.std.specs.Prelude.{◌≡◌, ◌↔◌, ◌+◌, ◌%◌, ◌^◌, IsSome, IsTrue, not, true, false};
 ghost use Rattle.foyer_storage_engine.specs.Ringing.{is_past};
 
@@ -7,18 +7,17 @@ use std::hint::spin_loop;
 use std::mem;
 use std::sync::{Condvar, Mutex, Wait};
 
-// How often a thread looks at a bell or at its wait before it sleeps. The looks take about 25 microseconds, or 60 if the processor pauses for
-// longer. A small batch takes less, and so does what it costs to sleep and to be woken.
+// How often a thread looks at a bell or at its wait before it sleeps. The looks take about 25 microseconds, or 60 if the processor pauses
+// for longer. A small batch takes less time than this, and so does putting a thread to sleep and waking it.
 pub(crate) const LOOKS: u32 = 1000;
 
-/// What shows that a bell was closed, behind this count: only who waited at it has one.
+/// Shows that a bell was closed, with its count when this was seen. Only a wait at a bell gives one.
 #[derive(Clone, Copy, Debug, PartialEq, Eq)]
 pub struct BellClosed {
     count: u64,
 }
 
-// What stands behind the lock: a count of moves, whether no more come, and whether a thread has begun to wait since the last
-// time that all were woken.
+// What the lock guards: a count of moves, whether the bell is closed, and whether a thread has begun to wait since the last move.
 #[derive(Drop)]
 struct Moves {
     count: u64,
@@ -37,7 +36,7 @@ impl Moves {
         }
     }
 
-    // A move: whether a thread is to be woken.
+    // Counts a move. Gives whether a thread must be woken.
     fn ring(&mut self) -> bool
         ensures moved { self.new ≡ record self.old { count = (self.old.count + 1) % 2 ^ 64; is_awaited = false } }
         ensures awaited { result ≡ self.old.is_awaited }
@@ -58,7 +57,7 @@ impl Moves {
         self.count != seen || self.is_closed
     }
 
-    // Whether to wait on: who does is to be woken by the next move.
+    // Whether to go on waiting. If so, the next move must wake the thread.
     fn begins_to_wait(&mut self, seen: u64) -> bool
         ensures waits { result ≡ not (is_past self.old seen) }
         ensures awaited { result ≡ true → self.new ≡ record self.old { is_awaited = true } }
@@ -71,7 +70,7 @@ impl Moves {
         true
     }
 
-    // What a wait gives, which may end nowhere else.
+    // What a wait gives at its end. The count must be past `seen`, or the bell closed.
     fn closed_past(&self, seen: u64) -> Option<BellClosed>
         requires { IsTrue (is_past self.now seen) }
         ensures { IsSome result ↔ IsTrue self.now.is_closed }
@@ -83,8 +82,8 @@ impl Moves {
     }
 }
 
-/// A count of moves, which threads share by reference. A thread remembers the count and tries its step. If it can't make the step, it waits
-/// for a move since then. So it misses no move between the two. Each call takes the bell's lock, and no other.
+/// A count of moves, which threads share by reference. A thread remembers the count and tries its step. If it can't make the step, it
+/// waits until the count is another. So it misses no move between the try and the wait. Each call takes the bell's lock, and no other.
 pub struct Bell {
     moves: Mutex<Moves>,
     moved: Condvar,
@@ -106,7 +105,7 @@ impl Bell {
         }
     }
 
-    /// Counts a move, and wakes all who wait. The count goes on at 0 behind 2^64 - 1.
+    /// Counts a move, and wakes all who wait. After 2^64 - 1 the count wraps to 0.
     pub fn ring(&self, rt: &impl Wait) {
         let is_awaited = lock_spinning(&self.moves, rt).ring();
         if is_awaited {
@@ -114,7 +113,7 @@ impl Bell {
         }
     }
 
-    /// Says that no more moves come, and wakes all who wait. A closed bell stays closed.
+    /// Closes the bell for good, and wakes all who wait.
     pub fn close(&self, rt: &impl Wait) {
         lock_spinning(&self.moves, rt).close();
         self.moved.notify_all();
@@ -137,12 +136,13 @@ impl Bell {
         }
     }
 
-    /// Waits until the count is another than `seen`, or the bell is closed. True once it is closed.
+    /// Waits until the count differs from `seen`, or the bell is closed. Gives true if the bell is closed.
     pub fn wait_past(&self, rt: &impl Wait, seen: u64) -> bool {
         self.closed_past(rt, seen).is_some()
     }
 
-    /// The same, which gives what shows that it is closed. Before it sleeps it looks for some microseconds, in which no ring has to wake it.
+    /// Waits as `wait_past` does, and gives a `BellClosed` if the bell is closed. Before the thread sleeps, it polls for some
+    /// microseconds, in which no ring has to wake it.
     pub fn closed_past(&self, rt: &impl Wait, seen: u64) -> Option<BellClosed> {
         for _ in 0..LOOKS {
             if let Some(closed) = self.look_past(seen) {

@@ -1,4 +1,4 @@
-//! The calls of an engine, made by any thread with a session of its own.
+//! The calls of an engine, made by any thread with a session of its own. The session must have a part of the engine's book of steps.
 ghost use Rattle.std.specs.Prelude.{◌≡◌, ◌+◌, ◌<◌, IfErr, IfOk, None, Ok, true, false, vec_len, Bool};
 ghost use Rattle.foyer_storage_engine.specs.Kept.{reference_of};
 ghost use Rattle.foyer_storage_engine.specs.Keeping.{IsAnsweredUnlessFull, IsKeptWhereQueued};
@@ -45,10 +45,10 @@ use foyer_policy_piece::keeper::{Piece, PieceRef};
 use std::alloc::Allocator;
 use std::sync::{Arc, Mutex, Wait};
 
-/// What became of a piece that was handed in.
+/// What became of a piece that was put.
 #[derive(Clone, Copy, Debug, PartialEq, Eq)]
 pub enum Enqueued {
-    /// It is queued, and is written in the end.
+    /// It is queued. A flusher writes it later, or gives it up.
     Queued,
     /// It isn't taken: it is young.
     Ignored,
@@ -78,8 +78,8 @@ fn ticket_of<K: Drop, V: Drop, P: Drop, A: Allocator>(
     }
 }
 
-/// An engine that threads share by reference. It has a core behind one lock, and disks that loads read from, each behind another lock. Its
-/// bells are rung when a step may let another thread go on. Each access passes the engine's gate first.
+/// An engine that threads share by reference. It has a core behind one lock, and disks that loads read from, each behind another lock.
+/// Its bells are rung when a step may let another thread go on. A load passes the engine's gate before it reads.
 pub struct BlockEngine<L, K, V, P, A, E, C, D, G, N>
 where
     L: Kinds,
@@ -145,7 +145,8 @@ where
     G: Gate,
     N: Noting,
 {
-    /// An engine over this core, which was opened with these settings. Its loads read from this disk.
+    /// Makes an engine over this core, which must have been opened with these settings. Its loads read from this disk, and its destroys
+    /// clean the blocks there. Errors: `Memory`.
     pub fn new(
         alloc: A,
         shared: Shared<L, K, V, P, A, E, C, N>,
@@ -175,7 +176,7 @@ where
         })
     }
 
-    /// The same, whose loads read from this disk too, which has the same blocks.
+    /// Adds another disk for loads, which must have the same blocks. Errors: `Memory`. Then the engine is dropped.
     pub fn with_load_disk(self, disk: D) -> Result<BlockEngine<L, K, V, P, A, E, C, D, G, N>>
         ensures rest { IfOk result (λ engine. (engine.settings ≡ self.settings) × (engine.shared ≡ self.shared)
             × (engine.signals ≡ self.signals) × (engine.gate ≡ self.gate) × (engine.alloc ≡ self.alloc) × (engine.patience ≡ self.patience)) }
@@ -191,14 +192,14 @@ where
         Ok(engine)
     }
 
-    // The disk of this number, counted modulo how many there are.
+    // The disk of this number, modulo how many there are. Those of `with_load_disk` come first, that of `new` last.
     fn reader(&self, number: usize) -> &Mutex<Reader<D, A>> {
         self.others
             .get(number % (self.others.len() + 1))
             .unwrap_or(&self.reader)
     }
 
-    /// The settings that its core was opened with.
+    /// The settings that `new` was given.
     pub fn settings(&self) -> &Settings
         ensures { result.now ≡ self.now.settings }
     {
@@ -212,29 +213,29 @@ where
         &self.shared
     }
 
-    /// What its workers and its callers tell one another.
+    /// The bells and waits by which its workers and its callers wait for one another.
     pub fn signals(&self) -> &Arc<Signals<A>, A>
         ensures { result.now ≡ self.now.signals }
     {
         &self.signals
     }
 
-    /// What threads pass before an access.
+    /// The gate. A load passes it before it reads. Workers pass it before a reclaim, and before they write a block.
     pub fn gate(&self) -> &G
         ensures { result.now ≡ self.now.gate }
     {
         &self.gate
     }
 
-    /// What its workers take their memory from.
+    /// The allocator from which loads and reclaims take the memory that they read into.
     pub fn allocator(&self) -> &A
         ensures { result.now ≡ self.now.alloc }
     {
         &self.alloc
     }
 
-    /// Queues a piece that a keeper has, or that none has; `size` is its estimated size in bytes. `Closed`, `Memory` and
-    /// `SequenceEnd` leave the engine as it was.
+    /// Queues a piece, and leaves keepers alone. `size` is the piece's estimated size in bytes. Errors: `Closed`, `Memory` and
+    /// `SequenceEnd`, which leave the engine as it was.
     pub fn enqueue(
         &self,
         rt: &impl Wait,
@@ -304,9 +305,9 @@ where
         self.enqueue_into(rt, session, &mut lock_spinning(lock, rt), piece, size)
     }
 
-    /// Queues a piece, and keeps it in this keeper if it is queued. `size` is its estimated size in bytes. The keeper's shard is locked from
-    /// before the core's step until after it, so that no look-up and no release comes between. Errors: `Closed`, `Memory` and `SequenceEnd`,
-    /// which leave the engine as it was. A piece that isn't queued replaces none in the keeper.
+    /// Queues a piece, and keeps it in this keeper if it is queued. `size` is its estimated size in bytes. The keeper's shard stays
+    /// locked until the piece is queued and kept, so no look-up and no release falls between. A piece that isn't queued replaces none in
+    /// the keeper. Errors: `Closed`, `Memory` and `SequenceEnd`, which leave the engine as it was.
     pub fn enqueue_kept(
         &self,
         rt: &impl Wait,
@@ -328,8 +329,8 @@ where
         answer
     }
 
-    /// Accepts a delete of a hash: it is a miss from then on, until a piece of it is queued and written again. `Closed`,
-    /// `Memory` and `SequenceEnd` leave the engine as it was.
+    /// Accepts a delete of a hash. Loads that begin later miss the hash until a piece of it is queued and written again. Errors:
+    /// `Closed`, `Memory` and `SequenceEnd`, which leave the engine as it was.
     pub fn delete(&self, rt: &impl Wait, session: &mut Session<L>, hash: u64) -> Result<()>
         requires { 0 < session.old.shares.parts }
         ensures answer { IsAnsweredAs N.keeps deleted_as session.old session.new (asked.Delete hash) result }
@@ -354,7 +355,7 @@ where
         answer_of(reply)
     }
 
-    // Ends a load with what was read for its ticket: an entry is the pair of these very bytes. Their buffer is kept for the next read.
+    // Ends a load with what was read for its ticket. An entry is the pair of exactly these bytes. Their buffer is kept for the next read.
     fn end_load(
         &self,
         rt: &impl Wait,
@@ -376,7 +377,7 @@ where
         load_of(reply)
     }
 
-    /// `load_by` from the first disk.
+    /// `load_by` from the disk of number 0.
     pub fn load(
         &self,
         rt: &impl Wait,
@@ -393,9 +394,9 @@ where
         self.load_by(rt, session, hash, throttled, 0)
     }
 
-    /// Looks a hash up, reads what it stands for, and gives its outcome. The caller says whether the device is throttled: if it is, nothing
-    /// is read. The caller also says which disk to read from, by a number that is counted modulo how many disks there are. No lock except
-    /// that disk's is held during the read. Errors: `Io` if the read failed; `Memory` if the read or the entry finds no memory; `Parse` and
+    /// Looks a hash up, and reads the entry that the index has for it. The caller says whether the device is throttled: if it is, nothing
+    /// is read. The caller also says which disk to read from, by a number modulo how many disks there are. Only this disk's lock is held
+    /// during the read. Errors: `Io` if the read failed; `Memory` if memory for the read, the entry or a note is refused; `Parse` and
     /// `Unsupported` if the entry isn't readable; `SequenceEnd` if no step is left.
     pub fn load_by(
         &self,

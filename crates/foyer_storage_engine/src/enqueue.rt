@@ -26,7 +26,7 @@ use foyer_policy_keeper::keeper::shard::{Reserved, Shard};
 use foyer_policy_piece::keeper::Piece;
 use std::alloc::Allocator;
 
-/// Puts the piece if the reply says that it is queued.
+/// Puts a piece into the shard if the reply says that it is queued. The shard must have reserved room and a number for it.
 pub fn put_where_queued<K: Eq + Drop, V: Drop, P: Drop, A: Allocator + Clone>(
     shard: &mut Shard<K, V, P, A>,
     reserved: Reserved<K, V, P, A>,
@@ -71,8 +71,9 @@ where
 }
 
 /// Queues a piece in the core. If it is queued, it is put into the keeper's shard under the shard's next number, and the step carries the
-/// reference of that number. Room and number are made first: `Memory` and `SequenceEnd` leave the core, the session and what is kept as they
-/// were. The caller holds the shard's lock from before the core's until after it, so that no look-up and no release comes between.
+/// reference of that number. If the core refuses the step, this refusal is the reply. Errors: `Memory` and `SequenceEnd` if the shard has
+/// no room or no number. Then the core, the session and what is kept are as they were. The caller takes the shard's lock before the
+/// core's, and keeps it longer, so no look-up and no release of the shard falls between.
 pub fn enqueue<L, K, V, P, A, E, C, N>(
     shard: &mut Shard<K, V, P, A>,
     locked: &mut Locked<L, K, V, P, A, E, C, N>,

@@ -1,7 +1,7 @@
-//! The engine that threads share: a core behind one lock, and a disk behind another; what a load gives; and how threads wait for one
-//! another. Its threads are in `foyer_storage_workers`.
+//! The engine that threads share: a core behind one lock, and disks for loads, each behind a lock of its own. Also what a load gives, and
+//! how threads wait for one another. The engine's threads are in `foyer_storage_workers`.
 //!
-//! It passes on the core's crates, so that whoever stands on the engine lists it alone.
+//! It re-exports the core's crates, so that a crate that uses the engine needn't list them.
 #![tactic(auto)]
 
 pub mod answers;

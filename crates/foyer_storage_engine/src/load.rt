@@ -25,14 +25,14 @@ pub enum Load<K, V, P, A: Allocator> {
         value: V,
         populated: Populated,
     },
-    /// A piece that isn't written yet.
+    /// A piece that the keeper had. It may not be written yet.
     Piece {
         piece: Piece<K, V, P, A>,
         populated: Populated,
     },
     /// The device is throttled: nothing was read.
     Throttled,
-    /// There is none, or another key's.
+    /// No entry was found, or only one of another key.
     Miss,
 }
 

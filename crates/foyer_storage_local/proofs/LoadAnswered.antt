@@ -36,7 +36,7 @@ module _ {X : Type 0} where
   last_of_two [] x y z e = absurd (some_behind [] z (sym (rest_is x y [] (z ∷ []) e)))
   last_of_two (w ∷ xs) x y z e = last_of_one xs x z (rest_is w y (xs ++ x ∷ []) (z ∷ []) e)
 
--- a world of this state over these bytes, where nothing is under way
+-- a world of this state over these bytes, in which nothing is under way
 abbrev world_over : Rules Content → State Content → (ℕ → ℕ → ℕ) → World Content
 world_over rules it bytes = record {
   core = it;

@@ -39,7 +39,7 @@ use Rattle.foyer_storage_local.specs.declared.engine.LocalEngine.{LocalEngine}
 abbrev pub Waited : {K V P H A D L E C : Type 0} → Meaning K V P → (is_known : D → Type 0) (byte_at : D → ℕ → ℕ → ℕ) (lies : D → ℕ → ℕ → ℕ → Type 0) (faults : D → ℕ) → LocalEngine K V P H A D L E C → LocalEngine K V P H A D L E C → Type 0
 Waited m is_known byte_at lies faults a b = LeadsForCause is_known byte_at lies faults (AllSteps IsWaiting) m a.core a.disk b.core b.disk
 
--- and a destroy's, which destroyed all where this holds
+-- and a destroy's steps, which destroyed everything if this condition holds
 abbrev pub Destroyed : {K V P H A D L E C : Type 0} → Type 0 → Meaning K V P → (is_known : D → Type 0) (byte_at : D → ℕ → ℕ → ℕ) (lies : D → ℕ → ℕ → ℕ → Type 0) (faults : D → ℕ) → LocalEngine K V P H A D L E C → LocalEngine K V P H A D L E C → Type 0
 Destroyed IsDone m is_known byte_at lies faults a b =
     LeadsForCause is_known byte_at lies faults (λ events. AllSteps IsDestroying events × (IsDone → HasDestroyed events)) m a.core a.disk b.core b.disk
@@ -62,7 +62,7 @@ module _ {D : Type 0} (lies : D → ℕ → ℕ → ℕ → Type 0) (faults : D 
     answers = is.answers;
   }
 
--- a write that fails only where the device did, of which it is sure that it lies in the disk, isn't one of which it is sure
+-- if writes to what lies in the disk fail only if the disk failed, a failed write didn't surely come
 pub failed_unsure : {X D : Type 0} (outcome : Result X Error) (lies : D → ℕ → ℕ → ℕ → Type 0) (faults : D → ℕ) (old new : D) (b o n len : ℕ) → len ≡ n
     → (lies old b o len → OnErr outcome (HasFailed (faults old) (faults new))) → OnErr outcome (HasCome lies faults old new b o n → ⊥)
 failed_unsure (Ok x) lies faults old new b o n len is failed = tt
@@ -137,7 +137,7 @@ module _ {K V P A D : Type 0} (m : Meaning K V P) (is_known : D → Type 0) (byt
       → LeadsForCause is_known byte_at lies faults (λ events. AllSteps IsDestroying events × (⊥ → HasDestroyed events)) m a x b y
   destroy_waited a b x y waits = (waits.0, λ known. let waited = waits.1 known in (waited.0, destroys_waiting m (HasCome lies faults x y) a b (byte_at x) (byte_at y) waited.1))
 
-  -- all is destroyed where something holds that only holds where it was
+  -- everything is destroyed if a condition holds that holds only if the earlier one did
   pub destroyed_if : (Was Is : Type 0) (a b : Core K V P A) (x y : D) → (Is → Was) → LeadsForCause is_known byte_at lies faults (λ events. AllSteps IsDestroying events × (Was → HasDestroyed events)) m a x b y
       → LeadsForCause is_known byte_at lies faults (λ events. AllSteps IsDestroying events × (Is → HasDestroyed events)) m a x b y
   destroyed_if Was Is a b x y only leads = (leads.0, λ known. let driven = leads.1 known in (driven.0, destroys_if m (HasCome lies faults x y) Was Is a b (byte_at x) (byte_at y) only driven.1))

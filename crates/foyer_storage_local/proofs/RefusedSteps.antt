@@ -168,7 +168,7 @@ module _ {K V P A : Type 0} (m : Meaning K V P) where
       question_refused (machine m s sound) (layout s) it hash why refused.0 refused.1 refused.2
   question_refused_as hash last old new meets = λ s sound it at. tt
 
-  -- what a destroy's begin is answered as, where the core is closed
+  -- what the begin of a destroy is answered as, if the core is closed
   begun_closed : (s : Settings) (sound : AreValid s) (it after : State Content) (last : Reply K V P A) (r : model_reply.Reply Content) → it.closed ≡ true → IsReply m last r
       → Follows (machine m s sound) (layout s) it model_step.DestroyBegin r after → (begun_as last ≡ Err error.Closed) ⊎ (begun_as last ≡ Err error.SequenceEnd)
   begun_closed s sound it after (reply.Refused why back) r closed said follows =

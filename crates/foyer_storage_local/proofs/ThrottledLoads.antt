@@ -1,4 +1,4 @@
--- A load is answered Throttled only where its caller says that the device is.
+-- A load is answered Throttled only if its caller says that the device is throttled.
 use Rattle.std.proofs.Common.{◌≡◌, ℕ, Bool, true, inl, inr, Option, Some, None, Result, Ok, Err, refl, subst}
 use Rattle.foyer_core_model.specs.Load.{Ends, Judges, Looks, judged}
 use Rattle.foyer_core_model.specs.Record.{Slot, Indexed, Mark, Outcome, NoRecord, NotSupported, Undecodable, Holds}

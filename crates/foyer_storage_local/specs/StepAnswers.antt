@@ -109,7 +109,7 @@ module _ {K V P A : Type 0} where
   begun_as (reply.Refused why back) = Err (wait_error why)
   begun_as said = Ok tt
 
-  -- a destroy's step that was handed back, or didn't end it
+  -- a destroy's step that was returned, or that didn't end the destroy
   abbrev pub kept_as : Reply K V P A → Result (Unit {0}) Error
   kept_as (reply.Refused kind back) = Err (wait_error kind)
   kept_as said = Err error.Io

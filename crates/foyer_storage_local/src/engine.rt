@@ -29,8 +29,8 @@ mod calls;
 mod destroy;
 mod wait;
 
-/// A core with its disk, with what the marks of its batches are appended to, and with what gives the hashes of keys. The contracts say
-/// something of a disk's bytes only if these are known. The bytes of memory are known, those of a system's files aren't.
+/// A core with its disk, its log of deletes and its hasher. Contracts say something about the disk's bytes only if these are known. The
+/// bytes of memory are known, those of a system's files aren't.
 pub struct LocalEngine<
     K,
     V,
@@ -92,8 +92,9 @@ where
     E: EvictionPicker,
     C: StorageFilterCondition,
 {
-    /// Opens an engine over zeroed memory that has every block, of which nothing is read; `env` has its pickers and its
-    /// generator.
+    /// Opens an engine over zeroed memory that has every block, in the mode `None` and without a log of deletes. `env` has its pickers, its
+    /// generator and its filter. Errors: `Config` if the settings don't go together; `OutOfRange` if the blocks have 2^64 bytes or more;
+    /// `Memory` at any time.
     pub fn open(
         alloc: A,
         hasher: H,
@@ -129,9 +130,9 @@ where
     E: EvictionPicker,
     C: StorageFilterCondition,
 {
-    /// Opens an engine with what the disk's blocks give in the mode. It has no log of deletes, so a delete is forgotten by the next opening.
-    /// `env` has its pickers and its generator. Errors: `Config` if the settings don't go together; `Recover` if a read failed in `Strict`;
-    /// `SequenceEnd` if what was found has the last sequence; `Memory` at any time.
+    /// Opens an engine with what the disk's blocks give in the mode. It has no log of deletes, so the next opening may forget a delete.
+    /// `env` has its pickers, its generator and its filter. Errors: `Config` if the settings don't go together; `Recover` if a read failed
+    /// in `Strict`; `SequenceEnd` if what was found has the last sequence; `Memory` at any time.
     pub fn with_disk(
         alloc: A,
         hasher: H,
@@ -175,9 +176,9 @@ where
     C: StorageFilterCondition,
 {
     /// Opens an engine with what the disk's blocks give in the mode, and with the marks of deletes that its log has listed. `env` has its
-    /// pickers and its generator. The marks of each batch are appended to the log before the batch ends. A batch whose append fails ends all
-    /// the same, so its deletes may be forgotten by the next opening. A log is asked only if the settings ask for one. Errors: `Config` if
-    /// the settings don't go together; `Recover` if a read failed in `Strict`; `SequenceEnd` if what was found, or a mark, has the last
+    /// pickers, its generator and its filter. The marks of each batch are appended to the log before the batch ends, even if the settings
+    /// ask for no log. A batch whose append fails ends all the same, so its deletes may be forgotten by the next opening. Errors: `Config`
+    /// if the settings don't go together; `Recover` if a read failed in `Strict`; `SequenceEnd` if what was found, or a mark, has the last
     /// sequence; `Memory` at any time.
     pub fn with_log(
         alloc: A,
@@ -222,8 +223,8 @@ where
         })
     }
 
-    /// Has reclaims write again, from now on, the records that the filter admits by their lengths in bytes, or none without a
-    /// filter. The one before comes back.
+    /// Sets the filter of reinsertions, or none, and gives the one before. From now on, reclaims queue the records that the filter admits,
+    /// to be written again.
     pub fn set_reinsertion(
         &mut self,
         filter: Option<StorageFilter<C, Global>>,
@@ -234,7 +235,7 @@ where
         self.env.replace_reinsertion(filter)
     }
 
-    /// Shows the filter, from now on, what the device did and has callers wait for.
+    /// Sets what the filter is passed from now on: what the device did, and how long it makes callers wait.
     pub fn set_io(&mut self, io: IoState)
         ensures { self.new ≡ record self.old { env = record self.old.env { io = io } } }
     {
@@ -266,7 +267,7 @@ where
         &self.alloc
     }
 
-    /// The sizes that it was opened with.
+    /// Gives the settings that the engine was opened with.
     pub fn settings(&self) -> Settings
         ensures { result ≡ self.now.core.settings }
     {

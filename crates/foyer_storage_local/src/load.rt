@@ -18,14 +18,14 @@ pub enum Enqueued {
 /// Where a loaded entry comes from.
 #[derive(Clone, Copy, Debug, PartialEq, Eq)]
 pub struct Populated {
-    /// How long it has been on its way through the cache.
+    /// `Old` if the entry's block is on probation, else `Young`.
     pub age: Age,
 }
 
 /// The answer to a load.
 #[derive(Debug, Drop)]
 pub enum Load<K, V> {
-    /// The key's entry, that was read from the device.
+    /// The key's entry, which was read from the device. A load of a hash answers the entry of any key with this hash.
     Entry {
         key: K,
         value: V,
@@ -33,7 +33,7 @@ pub enum Load<K, V> {
     },
     /// The key's hash has an entry, and the caller said that the device is throttled: nothing was read.
     Throttled,
-    /// There is none that was written, or another key's.
+    /// The hash has no entry that was written, or its entry is damaged or another key's.
     Miss,
 }
 

@@ -1,4 +1,4 @@
-//! What the core's replies are answered as.
+//! The answers of the engine's calls, by the core's replies.
 ghost use Rattle.std.specs.Prelude.{◌≡◌, ◌⊎◌, true, Some, IfErr, IsErr};
 ghost use Rattle.foyer_storage_local.specs.StepAnswers.{is_destroy_error, is_wait_error, wait_error};
 ghost use Rattle.foyer_storage_local.specs.StepAnswers.{begun_as, contains_as, deleted_as, destroyed_as, done_as, enqueued_as, kept_as, loaded_as, wrote_as};
@@ -75,7 +75,7 @@ pub(crate) fn answer_contains<K: Drop, V: Drop, P: Drop, A: Allocator>(
     }
 }
 
-// Whether a step did anything: none did that was out of turn, or found nothing.
+// Whether a step did anything. A step that was out of turn, or found nothing, did nothing.
 pub(crate) fn answer_step<K: Drop, V: Drop, P: Drop, A: Allocator>(
     last: Reply<K, V, P, A>,
 ) -> Result<bool>
@@ -89,7 +89,7 @@ pub(crate) fn answer_step<K: Drop, V: Drop, P: Drop, A: Allocator>(
     }
 }
 
-// Whether a block was written: none was that was out of turn.
+// True if a block was issued, even if its write failed. False if the step was out of turn. `NoSpace` if no block can be handed out.
 pub(crate) fn answer_block<K: Drop, V: Drop, P: Drop, A: Allocator>(
     last: Option<Reply<K, V, P, A>>,
 ) -> Result<bool>
@@ -104,7 +104,7 @@ pub(crate) fn answer_block<K: Drop, V: Drop, P: Drop, A: Allocator>(
 }
 
 #[tactic(auto, using(crate::proofs::LocalAnswers::wait_destroys))]
-// Whether a destroy has begun, or had before. None does of a closed engine.
+// `Ok` if a destroy has begun, or had before. `Closed` if the engine is closed.
 pub(crate) fn answer_begun<K: Drop, V: Drop, P: Drop, A: Allocator>(
     last: Reply<K, V, P, A>,
 ) -> Result<()>
@@ -132,7 +132,7 @@ pub(crate) fn answer_kept<K: Drop, V: Drop, P: Drop, A: Allocator>(
     }
 }
 
-// The outcome of the cleans, of which the first that failed did so by this error.
+// The outcome of the cleans. `first` is the error of the first clean that failed.
 pub(crate) fn answer_cleaned<K: Drop, V: Drop, P: Drop, A: Allocator>(
     last: Reply<K, V, P, A>,
     first: Option<Error>,

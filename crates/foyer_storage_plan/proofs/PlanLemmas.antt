@@ -12,7 +12,7 @@ use Rattle.foyer_core_settings.specs.declared.settings.Settings.{Settings}
 use Rattle.foyer_storage_plan.specs.Plans.{ArePlanned, AreSizes, settings_of}
 use Rattle.foyer_storage_plan.specs.declared.sizes.EngineSizes.{EngineSizes}
 
--- there is some shard just where none are given, or some
+-- there is some shard exactly if no number of shards is given, or one above 0
 some_shard : (given : Option ℕ) (blocks size shards : ℕ)
     → MatchOption given (IsDefaultShardCount blocks size shards) (λ n. shards ≡ n)
     → IfSome given (λ n. 0 < n) → 0 < shards
@@ -25,7 +25,7 @@ given_shard : (given : Option ℕ) (blocks size shards : ℕ)
 given_shard None blocks size shards has some = tt
 given_shard (Some n) blocks size shards has some = omega (arith, has, some)
 
--- a share of whole pages is more than nothing just where a share is a page
+-- a share of whole pages is more than nothing exactly if a share is at least a page
 some_buffer : (flushers pool : ℕ) → 0 < flushers → 4096 ≤ pool / flushers
     → 0 < (if flushers == 0 then 0 else pool / flushers / 4096 * 4096)
 some_buffer flushers pool some share = grind (arith, nat_tests)

@@ -1,4 +1,4 @@
-//! What an engine's sizes come to on a device: found before anything is made there.
+//! What an engine's sizes give on a device, as computed before anything is made there.
 #![tactic(auto)]
 
 pub mod laws;

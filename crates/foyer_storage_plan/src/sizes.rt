@@ -41,9 +41,10 @@ pub struct EngineSizes {
     pub flushers: u32,
     /// How many reclaims may run at a time.
     pub reclaimers: u32,
-    /// The bytes of all flushers' buffers together, of which each has an equal share of whole pages.
+    /// The bytes of all flushers' buffers together. Each flusher's buffer is an equal share, in whole pages.
     pub buffer_pool_size: usize,
-    /// If the sizes of the queued pieces sum to more than this, in bytes, a piece isn't taken, and its hash is deleted.
+    /// The limit of the sum of the queued pieces' sizes, in bytes. If the sum is more, a piece that isn't young is dropped, and its hash is
+    /// deleted.
     pub submit_queue_size_threshold: usize,
     /// A reclaim may begin if fewer blocks than this are clean, and also if a flusher waits for one.
     pub clean_block_threshold: usize,
@@ -85,7 +86,7 @@ impl EngineSizes {
         }
     }
 
-    // A core of so many blocks of these sizes.
+    // The settings of a core of `blocks` blocks of these sizes.
     #[tactic(auto, unfolding(foyer_format_layout::specs::Page::page_up))]
     fn settings(&self, blocks: u32) -> Settings
         requires block { self.now.block_size ≤ 2 ^ 32 }
@@ -110,10 +111,10 @@ impl EngineSizes {
         }
     }
 
-    /// Checks that the sizes go together, whatever the device. Errors: `Config` for a block or an index of no bytes, a block of more than
-    /// 2^32 bytes, an index that isn't smaller than a block when both are rounded up to whole pages, no flusher, a share of the pool for each
-    /// flusher of less than a page, no reclaimer, 2^32 flushers and reclaimers together, no shard if a number is given, no worker at an
-    /// opening, or no I/O engine for loads.
+    /// Checks that the sizes go together, whatever the device. Errors: `Config` unless all of this holds. A block has from 1 to 2^32 bytes,
+    /// and an index at least 1. Rounded up to whole pages, an index is smaller than a block. There is a flusher and a reclaimer, and both
+    /// kinds together are below 2^32. Each flusher's share of the pool is at least a page. A number of shards, if given, is at least 1.
+    /// There is a worker for openings and an I/O engine for loads.
     pub fn check(&self) -> Result<()>
         ensures sound { IsOk result ↔ AreSizes self.now }
         ensures refused { IsOkUnless result Error.Config }

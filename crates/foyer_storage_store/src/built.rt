@@ -50,7 +50,7 @@ pub type DeviceEngine<L, K, V, P, E, C, N, Q, G> = BlockEngine<
     NoNotes,
 >;
 
-// What a wait has a put answered as.
+// The verdict of a wait: `Admit` if it is zero.
 fn throttled_by(wait: Duration) -> StorageFilterResult
     ensures { IsThrottledBy wait result }
 {
@@ -61,7 +61,7 @@ fn throttled_by(wait: Duration) -> StorageFilterResult
     }
 }
 
-// What conditions say of a put, and then what the device has writes wait for, which is asked last.
+// Adds the device's wait for writes to the verdict of the conditions. A rejection stays one.
 fn with_wait(before: StorageFilterResult, wait: Duration) -> StorageFilterResult
     ensures { IsVerdictWithWait before wait result }
 {
@@ -72,7 +72,7 @@ fn with_wait(before: StorageFilterResult, wait: Duration) -> StorageFilterResult
     }
 }
 
-// What an admission filter, if there is one, says of an entry, and then the device.
+// The verdict about an entry: that of the admission filter, if there is one, and then that of the device's limits of writes.
 fn admission_of<C: StorageFilterCondition>(
     admission: &Option<StorageFilter<C, Global>>,
     io: &IoState,
@@ -88,7 +88,7 @@ fn admission_of<C: StorageFilterCondition>(
     with_wait(before, io.write_throttle)
 }
 
-// The same state, in which no write waits.
+// The same state, except that no write has to wait.
 fn without_wait(io: IoState) -> IoState
     ensures { as_nanos result.write_throttle ≡ 0 }
 {
@@ -98,7 +98,7 @@ fn without_wait(io: IoState) -> IoState
     }
 }
 
-/// An engine over the blocks of a device, with its admission filter, and what asks the device's counters for all callers.
+/// An engine over the blocks of a device, with its admission filter, and a recorder that reads the device's counters for all callers.
 pub struct BuiltEngine<L, K, V, P, E, C, N, Q, G>
 where
     L: Kinds,
@@ -178,7 +178,7 @@ where
         }
     }
 
-    // Whether a read is to wait at a moment. Without a limit of reads nothing is asked.
+    // Whether a read must wait at a moment. Without a limit of reads it asks nothing.
     fn is_read_throttled(&self, rt: &impl Wait, now: u64) -> bool
         ensures { self.now.throttle.read_throughput ≡ None → self.now.throttle.read_iops ≡ None → result ≡ false }
     {
@@ -196,7 +196,7 @@ where
         self.throttle.write_throughput.is_some() || self.throttle.write_iops.is_some()
     }
 
-    // The number of the disk that a session reads from, which keeps to this one: the next number at its first load.
+    // The number of the disk that a session reads from: the one that it kept, or at its first load the next number.
     fn disk_of(&self, kept: Option<usize>) -> usize {
         match kept {
             Some(disk) => disk,

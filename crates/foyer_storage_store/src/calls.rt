@@ -62,13 +62,13 @@ pub trait Engine<S: Drop, K: Eq, V, P>: Drop {
     fn device(&self) -> DeviceSummary
         ensures { result ≡ summary self.now };
 
-    /// What its device did and has callers wait for, at a moment in nanoseconds.
+    /// The counters of its device, and how long its limits make callers wait at a moment in nanoseconds.
     fn io_state(&self, rt: &impl Wait, now: u64) -> IoState;
 
     /// What its threads did since it was opened.
     fn work(&self) -> WorkCounts;
 
-    /// What its admission filter says of an entry of that hash and size in bytes, at a moment.
+    /// What its admission filter, and then its limits of writes, say of an entry of that hash and size in bytes, at a moment.
     fn filter(&self, rt: &impl Wait, hash: u64, size: usize, now: u64) -> StorageFilterResult
         ensures { may_judge self.now hash size result };
 
@@ -85,8 +85,8 @@ pub trait Engine<S: Drop, K: Eq, V, P>: Drop {
         ensures answered { may_enqueue self.now session.old session.new piece.now.hash size result }
         ensures refused { IfErr result (λ e. is_draw_error e ≡ true) };
 
-    /// Looks the hash up, of which a keeper had no piece, at a moment, and reads what it stands for. `Io`, `Memory`, `Parse`, `Unsupported`,
-    /// `SequenceEnd`.
+    /// Looks up a hash of which a keeper had no piece, at a moment in nanoseconds, and reads its entry. Errors: `Io`; `Memory`; `Parse`;
+    /// `Unsupported`; `SequenceEnd`.
     fn load(
         &self,
         rt: &impl Wait,
@@ -97,12 +97,12 @@ pub trait Engine<S: Drop, K: Eq, V, P>: Drop {
         ensures answered { may_load self.now session.old session.new lacking.hash result }
         ensures refused { IfErr result (λ e. is_load_error e ≡ true) };
 
-    /// Accepts a delete of a hash. `Closed`, `Memory`, `SequenceEnd`.
+    /// Accepts a delete of a hash. Errors: `Closed`; `Memory`; `SequenceEnd`.
     fn delete(&self, rt: &impl Wait, session: &mut S, hash: u64) -> Result<()>
         ensures answered { may_delete self.now session.old session.new hash result }
         ensures refused { IfErr result (λ e. is_draw_error e ≡ true) };
 
-    /// Whether the hash is indexed, of which a keeper had no piece. `SequenceEnd`.
+    /// Says whether a hash of which a keeper had no piece is indexed. Errors: `SequenceEnd`.
     fn may_contains(&self, rt: &impl Wait, session: &mut S, lacking: NotKept) -> Result<bool>
         ensures answered { may_ask self.now session.old session.new lacking.hash result }
         ensures refused { IfErr result (λ e. is_question_error false e ≡ true) };
@@ -111,7 +111,7 @@ pub trait Engine<S: Drop, K: Eq, V, P>: Drop {
     fn destroy(&self, rt: &impl Wait, session: &mut S) -> Result<()>
         ensures { may_destroy self.now session.old session.new result };
 
-    /// Waits until all that was queued is written.
+    /// Waits until all that was queued before is written or given up.
     fn wait(&self, rt: &impl Wait, session: &mut S) -> Result<()>
         ensures { may_wait self.now session.old session.new result };
 

@@ -10,17 +10,17 @@ use foyer_storage_engine::load::Load;
 use std::alloc::{Allocator, Global};
 use std::sync::atomic::{AtomicU64, Ordering};
 
-/// What a store did since it was built, by all its callers and threads. Numbers that change together may be looked at apart: each is right once
-/// nothing is under way.
+/// What a store did since it was built, by all its callers and threads. The numbers are read one after another. Each is right if nothing
+/// is under way.
 #[derive(Clone, Copy, Debug, Default, PartialEq, Eq)]
 pub struct StoreCounters {
-    /// The bytes that its device wrote, with those of indices, cleans and the log of deletes.
+    /// The bytes of all writes to its device, failed ones too, with those of indices, cleans and the log of deletes.
     pub disk_write_bytes: u64,
-    /// The bytes that it read, with those of the opening.
+    /// The bytes of all reads of its device, failed ones too, with those of the opening.
     pub disk_read_bytes: u64,
-    /// Its calls that wrote, as the throttle's counter counts them.
+    /// The calls that wrote to its device, as the throttle's counter counts them.
     pub disk_write_ios: u64,
-    /// Those that read.
+    /// The calls that read from its device, counted in the same way.
     pub disk_read_ios: u64,
     /// Puts that were queued.
     pub queued_puts: u64,
@@ -30,21 +30,22 @@ pub struct StoreCounters {
     pub dropped_puts: u64,
     /// Puts that the admission filter or a limit of writes turned away: their keys are deleted.
     pub rejected_puts: u64,
-    /// Puts that were queued and then found no room in a flusher's buffer or a block: their keys are deleted.
+    /// Puts that were queued, and then had no room in a flusher's buffer or a block, or couldn't be encoded: their keys are deleted.
     pub returned_puts: u64,
-    /// Deletes that were accepted, beside those that stand for a put.
+    /// Deletes that were accepted, except those made in place of a put.
     pub deletes: u64,
-    /// Loads that a piece answered which isn't written yet.
+    /// Loads that the keeper answered, with a piece.
     pub memory_hits: u64,
-    /// Loads that the device answered.
+    /// Loads that the device answered, with an entry of the key.
     pub device_hits: u64,
     /// Loads that found nothing, or another key's entry.
     pub misses: u64,
-    /// Loads that a limit of reads turned away. Loads that are refused are in no count.
+    /// Loads that a limit of reads turned away. Loads that end in an error are in no count.
     pub throttled_loads: u64,
     /// Batches that flushers began.
     pub batches: u64,
-    /// Blocks of which a write failed: the puts of their batch that weren't written yet are gone, and are counted nowhere else.
+    /// Blocks of which a write failed, or whose records the index got no memory for. The puts of their batch that weren't written yet are
+    /// gone, and no other count has them.
     pub failed_blocks: u64,
     /// Reclaims that began.
     pub reclaims: u64,
@@ -136,7 +137,7 @@ impl Drop for CallCounters {
 }
 
 impl CallCounters {
-    // Nothing was called. Memory.
+    // Makes counts of 0. Errors: `Memory`.
     pub(crate) fn new(alloc: Global) -> Result<CallCounters>
         ensures { IsOkUnless result error.Memory }
     {
@@ -151,7 +152,7 @@ impl CallCounters {
         self.stripes.get((hash % STRIPES as u64) as usize)
     }
 
-    // A put that was handed to the engine.
+    // Counts a put that the engine answered.
     pub(crate) fn add_put(&self, hash: u64, enqueued: Enqueued) {
         if let Some(stripe) = self.stripe(hash) {
             match enqueued {
@@ -162,7 +163,7 @@ impl CallCounters {
         }
     }
 
-    // One that wasn't admitted.
+    // Counts a put that wasn't admitted.
     pub(crate) fn add_rejected(&self, hash: u64) {
         if let Some(stripe) = self.stripe(hash) {
             add(&stripe.rejected);

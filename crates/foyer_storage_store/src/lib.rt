@@ -1,6 +1,6 @@
-//! The store: a keeper of the pieces that aren't written yet, before an engine; and what it asks of the engine.
+//! The store: a keeper of the pieces that aren't written yet, in front of an engine; and what the store asks of the engine.
 //!
-//! It passes on the engine's crate, so that whoever stands on the store lists it alone.
+//! It re-exports the engine's crate, so that a crate that uses the store needn't list it.
 #![tactic(auto)]
 
 pub mod built;

@@ -17,7 +17,8 @@ use foyer_storage_engine::load::Load;
 use std::alloc::Global;
 use std::sync::{Mutex, Wait};
 
-/// An engine that keeps nothing: it queues and finds nothing, and all else is Ok.
+/// An engine that keeps nothing: it queues and finds nothing, and its filter rejects every entry. The other calls do nothing and are
+/// `Ok`.
 pub struct NoopEngine<L: Kinds> {
     // No step is counted in it.
     books: Mutex<Books<L>>,
@@ -31,7 +32,7 @@ impl<L: Kinds> Drop for NoopEngine<L> {
 }
 
 impl<L: Kinds> NoopEngine<L> {
-    /// One over these books, in which nothing is counted.
+    /// Makes an engine over these books, in which nothing is counted.
     pub fn new(books: Books<L>) -> NoopEngine<L> {
         NoopEngine {
             books: Mutex::new(books),

@@ -1,4 +1,4 @@
-//! The sessions that a store is asked with, and what they are made of: facts about their parts lie in their types.
+//! The sessions that callers of a store ask with. That a session has a part is a fact of its type.
 ghost use Rattle.std.specs.Prelude.{◌≡◌, ◌+◌, ◌<◌, ◌∷◌, [], None};
 ghost use Rattle.foyer_core_tally.specs.Tally.{both, none, shown, listed, saturated};
 
@@ -10,7 +10,7 @@ use foyer_storage_engine::core_shared::session::Session;
 /// own.
 pub struct StoreSession<L: Kinds> {
     pub(crate) steps: Session<L>,
-    // The number of the disk that its loads read from, from the first one on.
+    // The number of the disk that its loads read from. Its first load sets it.
     pub(crate) disk: Option<usize>,
     ghost some_part: { 0 < steps.shares.parts },
 }
@@ -23,7 +23,7 @@ impl<L: Kinds> Drop for StoreSession<L> {
 }
 
 impl<L: Kinds> StoreSession<L> {
-    /// A session that has some parts.
+    /// Makes a store's session of a session that has at least one part.
     pub fn new(steps: Session<L>) -> StoreSession<L>
         requires { 0 < steps.shares.parts }
         ensures { result.steps ≡ steps }
@@ -60,7 +60,7 @@ impl<L: Kinds> StoreSession<L> {
         self.steps.last()
     }
 
-    /// Gives so many parts away, and no briefs.
+    /// Splits off a session that has `parts` of this one's parts, and no briefs. `parts` must be at least 1, and fewer than this one has.
     pub fn split(&mut self, parts: u64) -> StoreSession<L>
         requires some { 0 < parts }
         requires fewer { parts < self.old.steps.shares.parts }

@@ -1,4 +1,4 @@
-//! The store: a keeper of the pieces that aren't written yet, before an engine.
+//! The store: a keeper of the pieces that aren't written yet, in front of an engine.
 ghost use Rattle.std.specs.Arc.{arc_value};
 ghost use Rattle.std.specs.declared.alloc.Global.{Global};
 ghost use Rattle.std.specs.Prelude.{◌≡◌, ◌⊎◌, ◌<◌, ℕ, Result, Ok, Err, true, false, IfErr, IfOk, IsOkUnless};
@@ -84,7 +84,7 @@ impl<N: Drop, K: Eq + Drop, V: Drop, P: Drop, H: Drop> Clone for Store<N, K, V, 
 }
 
 impl<N: Drop, K: Eq + Drop, V: Drop, P: Drop, H: Drop> Store<N, K, V, P, H> {
-    /// A store over an engine that is built, which keeps its pieces in this keeper. Memory.
+    /// Makes a store over an engine that was built, with the keeper of the engine's pieces. Errors: `Memory`.
     pub fn new(
         alloc: Global,
         name: &'static str,
@@ -131,21 +131,22 @@ impl<N: Drop, K: Eq + Drop, V: Drop, P: Drop, H: Drop> Store<N, K, V, P, H> {
         self.shared.is_enabled
     }
 
-    /// The counters of its device.
+    /// The counters of its device. If the store has several cores, they are those of the first core's device.
     pub fn statistics(&self) -> &Statistics<Global>
         ensures { result.now ≡ arc_value (arc_value self.now.shared).statistics }
     {
         &self.shared.statistics
     }
 
-    /// The limits of its device.
+    /// The limits of its device. If the store has several cores, they are those of the first core's device.
     pub fn throttle(&self) -> Throttle
         ensures { result ≡ (arc_value self.now.shared).throttle }
     {
         self.shared.throttle
     }
 
-    /// How many bytes an entry is estimated to take, saturating: both codes together.
+    /// How many bytes an entry is estimated to take: those of both encodings together, saturating. If key or value can't be encoded, it
+    /// may be any number.
     pub fn entry_estimated_size(&self, key: &K, value: &V) -> usize
     where
         K: Code<Global>,
@@ -164,7 +165,7 @@ impl<N: Drop, K: Eq + Drop, V: Drop, P: Drop, H: Drop> Store<N, K, V, P, H> {
         self.shared.engine.device()
     }
 
-    /// What its device did and has callers wait for, at a moment in nanoseconds.
+    /// The counters of its device, and how long its limits make callers wait at a moment in nanoseconds.
     pub fn io_state<S: Drop>(&self, rt: &impl Wait, now: u64) -> IoState
     where
         N: Engine<S, K, V, P>,
@@ -191,7 +192,7 @@ impl<N: Drop, K: Eq + Drop, V: Drop, P: Drop, H: Drop> Store<N, K, V, P, H> {
         self.shared.hasher.hash_one(key)
     }
 
-    /// A piece of a key, with its hash. `Memory` alone; key, value and properties are dropped then.
+    /// Makes a piece of a key, with its hash. Errors: `Memory`. Then key, value and properties are dropped.
     pub fn piece(
         &self,
         alloc: Global,
@@ -208,8 +209,8 @@ impl<N: Drop, K: Eq + Drop, V: Drop, P: Drop, H: Drop> Store<N, K, V, P, H> {
         Piece::new(alloc, key, value, hash, properties)
     }
 
-    /// Puts a value under a key, with its properties, at a moment in nanoseconds: a piece of them that isn't forced, as `enqueue` does.
-    /// `Closed`, `Memory` and `SequenceEnd` leave the store as it was.
+    /// Puts a value under a key, with its properties, at a moment in nanoseconds, as `enqueue` does with a piece that isn't forced.
+    /// Errors: `Closed`, `Memory` and `SequenceEnd`, which leave the store as it was.
     pub fn put<S: Drop>(
         &self,
         rt: &impl Wait,
@@ -253,9 +254,10 @@ impl<N: Drop, K: Eq + Drop, V: Drop, P: Drop, H: Drop> Store<N, K, V, P, H> {
         self.shared.engine.filter(rt, hash, size, now)
     }
 
-    /// Hands a piece in, whose hash is the hasher's of its key, as `piece` makes it. If it is forced, or the admission filter and the
-    /// limits of writes admit it, it is queued at the engine, and kept until it is written; else its key is deleted. A piece that isn't
-    /// queued isn't kept, and replaces none that is. `Closed`, `Memory` and `SequenceEnd` leave the store as it was.
+    /// Puts a piece, whose hash must be the hasher's of its key, as `piece` makes it. If it is forced, or the admission filter and the
+    /// limits of writes admit it, it goes to the engine; else its key is deleted. The engine queues it, ignores it if it is young, or
+    /// deletes its key if too much is queued. A queued piece is kept until it is written or given up. A piece that isn't queued isn't
+    /// kept, and replaces none that is. Errors: `Closed`, `Memory` and `SequenceEnd`, which leave the store as it was.
     pub fn enqueue<S: Drop>(
         &self,
         rt: &impl Wait,
@@ -295,9 +297,9 @@ impl<N: Drop, K: Eq + Drop, V: Drop, P: Drop, H: Drop> Store<N, K, V, P, H> {
         Ok(Enqueued::Deleted)
     }
 
-    /// Gives what a key has, at a moment in nanoseconds: the keeper's piece, else what the engine reads. An entry of another key is a miss.
-    /// Errors: `Io` if the read failed; `Memory` if the read or the entry finds no memory; `Parse` and `Unsupported` if the entry isn't
-    /// readable; `SequenceEnd` if no step is left.
+    /// Loads a key, at a moment in nanoseconds: gives the keeper's piece, else what the engine reads. An entry of another key is a miss.
+    /// If a limit of reads is used up, it may be `Throttled`. Errors: `Io` if the read failed; `Memory` if memory is refused; `Parse` and
+    /// `Unsupported` if the entry isn't readable; `SequenceEnd` if no step is left.
     pub fn load<S: Drop>(
         &self,
         rt: &impl Wait,
@@ -330,8 +332,8 @@ impl<N: Drop, K: Eq + Drop, V: Drop, P: Drop, H: Drop> Store<N, K, V, P, H> {
         Ok(answer)
     }
 
-    /// Deletes a key. A piece that is still kept stays until it is written. `Closed`, `Memory` and `SequenceEnd` leave the store as
-    /// it was.
+    /// Deletes a key. If the keeper has a piece of the key, loads answer this piece until it is written or given up. Errors: `Closed`,
+    /// `Memory` and `SequenceEnd`, which leave the store as it was.
     pub fn delete<S: Drop>(&self, rt: &impl Wait, session: &mut S, key: &K) -> Result<()>
     where
         N: Engine<S, K, V, P>,
@@ -363,8 +365,9 @@ impl<N: Drop, K: Eq + Drop, V: Drop, P: Drop, H: Drop> Store<N, K, V, P, H> {
         }
     }
 
-    /// Destroys all entries: what was put before is gone, on the device too. Once it has begun it tries again what is refused
-    /// memory. `Io`, or another kind, is that of the first clean that failed: the others were done.
+    /// Destroys all entries: if it is `Ok`, what was put before is gone, on the device too. What is put meanwhile may be gone as well.
+    /// Errors of a store over a device: `Closed`, `Memory` if memory is refused before it has begun, and `SequenceEnd`. `Io` or `Memory`
+    /// is also the error of the first clean that failed. Then the index is clear, and a clean of every block was tried.
     pub fn destroy<S: Drop>(&self, rt: &impl Wait, session: &mut S) -> Result<()>
     where
         N: Engine<S, K, V, P>,
@@ -373,7 +376,8 @@ impl<N: Drop, K: Eq + Drop, V: Drop, P: Drop, H: Drop> Store<N, K, V, P, H> {
         self.shared.engine.destroy(rt, session)
     }
 
-    /// Waits until all that was queued before is written, and no reclaim runs.
+    /// Waits until all that was queued before is written or given up, and no reclaim runs. A store over a device waits for nothing once
+    /// its workers were joined. Its errors are `Memory`, and `SequenceEnd` if no step is left.
     pub fn wait<S: Drop>(&self, rt: &impl Wait, session: &mut S) -> Result<()>
     where
         N: Engine<S, K, V, P>,
@@ -382,7 +386,8 @@ impl<N: Drop, K: Eq + Drop, V: Drop, P: Drop, H: Drop> Store<N, K, V, P, H> {
         self.shared.engine.wait(rt, session)
     }
 
-    /// Takes no more enqueues, deletes and destroys, and waits. Loads go on.
+    /// Takes no more enqueues, deletes and destroys, and waits as `wait` does. Loads still work. Errors: those of `wait`. If only the
+    /// wait failed, the store is closed.
     pub fn close<S: Drop>(&self, rt: &impl Wait, session: &mut S) -> Result<()>
     where
         N: Engine<S, K, V, P>,

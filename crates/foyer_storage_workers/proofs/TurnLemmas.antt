@@ -23,7 +23,7 @@ turn_was false None flusher session idle = (idle refl, refl)
 turn_was false (Some by) flusher session idle = (idle refl, refl)
 
 module _ {K V P A : Type 0} where
-  -- where a batch is said not to have begun, none did
+  -- if a batch is said not to have begun, none did
   pub not_begun : (answer : Reply K V P A) (flusher : ℕ) (has_log : Bool) (session : SessionState) → IsBegunAs answer flusher has_log session begun.No
       → begins (reply_brief answer) ≡ false
   not_begun (reply.Began blocks marks) flusher false session did = let no : begun.No ≡ begun.Unlogged = did.0 refl in absurd cc

@@ -20,7 +20,7 @@ module _ {K V P A : Type 0} where
   not_next (reply.Received (Some back)) isnt = refl
   not_next answer isnt = refl
 
-  -- nor does the brief name a block where the reply doesn't
+  -- nor does the brief name a block if the reply doesn't
   pub names_none : (answer : Reply K V P A) → ((block : ℕ) (writes : _) → answer ≡ reply.Write block writes → ⊥) → (answer ≡ reply.NoBlock → ⊥)
       → names_block (reply_brief answer) ≡ false
   names_none (reply.Write block writes) isnt none = absurd (isnt block writes refl)

@@ -45,7 +45,8 @@ module _ {K V P A : Type 0} where
   hold_end_of wants_flush is_busy (reply.Refused cause back) = Some (refused_end is_busy cause)
   hold_end_of wants_flush is_busy other = Some (end.Drained is_busy)
 
-  -- How a hold ended, by its newest step: what was handed back is handed on, and else the last one taken is in the buffer, or none was left.
+  -- How a hold ended, by its newest step: it took a piece that was returned, or something that wasn't, or nothing. If memory was
+  -- refused, nothing is said.
   abbrev pub IsHoldEnd : (flusher : ℕ) → SessionState → HoldEnd K V P A → Type 0
   IsHoldEnd flusher session end.Enough = GotOfQueue flusher session replied.Received
   IsHoldEnd flusher session end.More = GotOfQueue flusher session replied.Received

@@ -1,19 +1,19 @@
-//! What gives the moment.
+//! Clocks, which give the current moment.
 //!
-//! All moments that a store is given count from one origin: that of the clock that it is built with. So the clock is made first, and its
-//! `now` goes to the device's builder and to each call that takes a moment.
+//! All moments that a store is given count from one origin: that of the clock that it is built with. So make the clock first, and pass
+//! its `now` to the device's builder and to each call that takes a moment.
 ghost use Rattle.std.specs.Prelude.{◌≡◌};
 
 use foyer_device_page::error::Result;
 use std::time::Instant;
 
-/// What gives the moment.
+/// A clock, which gives the current moment.
 pub trait Clock: Drop {
     /// The moment, in nanoseconds.
     fn now(&self) -> u64;
 }
 
-/// A clock that stands still. Its limits never fill again, so it is for stores without limits.
+/// A clock whose moment never changes. With it the quota of a limit never refills, so it is for stores without limits.
 #[derive(Clone, Copy, Debug, Default, PartialEq, Eq)]
 pub struct Moment(pub u64);
 
@@ -33,7 +33,7 @@ pub struct SystemClock<R: std::rt::Clock + Copy + Drop> {
 }
 
 impl<R: std::rt::Clock + Copy + Drop> SystemClock<R> {
-    /// A clock that counts from now on. `Io` if the system's can't be read.
+    /// Makes a clock that counts from now on. Errors: `Io` if the system's clock can't be read.
     pub fn start(rt: R) -> Result<SystemClock<R>> {
         let start = Instant::now(&rt)?;
         Ok(SystemClock { rt, start })
@@ -41,7 +41,7 @@ impl<R: std::rt::Clock + Copy + Drop> SystemClock<R> {
 }
 
 impl<R: std::rt::Clock + Copy + Drop> Clock for SystemClock<R> {
-    /// The nanoseconds since the start: 0 if the system's clock can't be read, which limits take as no time gone.
+    /// The nanoseconds since the start, 2^64 - 1 at most. It is 0 if the system's clock can't be read, which limits take as no time gone.
     fn now(&self) -> u64 {
         match self.start.elapsed(&self.rt) {
             Ok(gone) => u64::try_from(gone.as_nanos()).unwrap_or(u64::MAX),

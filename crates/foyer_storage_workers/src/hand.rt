@@ -1,4 +1,4 @@
-//! A session that goes through a thread.
+//! A session that a thread takes along and gives back.
 ghost use Rattle.std.specs.Prelude.{◌≡◌, ◌+◌, ◌<◌};
 ghost use Rattle.foyer_storage_engine.specs.Ending.{CountsUnnamed};
 
@@ -20,7 +20,7 @@ impl<L: Kinds> Drop for Hand<L> {
 }
 
 impl<L: Kinds> Hand<L> {
-    /// One part of a session's.
+    /// Splits one part off a session, which must have more than one.
     pub fn of(session: &mut Session<L>) -> Hand<L>
         requires { 1 < session.old.shares.parts }
         ensures { session.new.shares.parts + 1 ≡ session.old.shares.parts }
@@ -39,7 +39,7 @@ impl<L: Kinds> Hand<L> {
         session
     }
 
-    /// What the thread gives back.
+    /// Makes a `Hand` of a session again. The session must have one part, and count no put, delete, load, close or step of a destroy.
     pub fn from_session(session: Session<L>) -> Hand<L>
         requires part { session.shares.parts ≡ 1 }
         requires unnamed { CountsUnnamed session }

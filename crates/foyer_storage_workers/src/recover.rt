@@ -17,7 +17,7 @@ pub trait Recoverer<T: Drop>: Drop {
     fn list(self) -> T;
 }
 
-/// What an engine that recovers nothing has in their place.
+/// What an engine that recovers nothing has in place of recoverers.
 #[derive(Clone, Copy, Debug, PartialEq, Eq)]
 pub struct NoRecoverer;
 
@@ -27,7 +27,7 @@ impl Recoverer<NoRecoverer> for NoRecoverer {
     }
 }
 
-/// A worker of a recovery, with a disk of its own: it lists the blocks whose id modulo the number of workers is its own.
+/// A worker of a recovery, with a disk of its own. It lists the blocks whose id, modulo the count of workers, is the worker's number.
 #[derive(Drop)]
 pub struct DiskRecoverer<D: Disk + Drop> {
     /// What the core will be opened with.
@@ -36,7 +36,7 @@ pub struct DiskRecoverer<D: Disk + Drop> {
     pub mode: RecoverMode,
     /// The blocks.
     pub disk: D,
-    /// Its number.
+    /// Its number, counted from 0.
     pub worker: u32,
     /// How many workers there are.
     pub workers: u32,
@@ -62,7 +62,7 @@ impl<D: Disk + Drop> DiskRecoverer<D> {
     }
 }
 
-/// Takes in what a worker listed: of each block the listing that is there first stays.
+/// Adds what a worker listed. If a block has a listing already, that one stays.
 pub fn add_all<D: Disk>(listings: &mut Listings<Global, D>, more: Vec<BlockListing<Global, D>>)
     ensures stay { (b : ℕ) → IsSome (listing_in (slice_get listings.old.slots.items b))
         → slice_get listings.new.slots.items b ≡ slice_get listings.old.slots.items b }
@@ -73,8 +73,8 @@ pub fn add_all<D: Disk>(listings: &mut Listings<Global, D>, more: Vec<BlockListi
     }
 }
 
-/// Has a thread for each of them list its blocks, joins the threads, and gives what they listed, in the order of those that
-/// could be started. What one of the others would have listed, whoever opens the core reads by itself.
+/// Starts a thread for each recoverer, joins the threads, and gives what they listed, in the recoverers' order. A recoverer whose thread
+/// can't be started gives nothing. Whoever opens the core reads that recoverer's blocks.
 pub fn list_blocks<R, W, T>(rt: R, alloc: Global, recoverers: Vec<W>) -> Vec<T>
 where
     R: Threads + Wait + Copy + Send + 'static,

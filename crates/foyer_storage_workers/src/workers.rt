@@ -25,13 +25,13 @@ use std::sync::{Arc, Wait};
 use std::thread;
 use std::thread::{JoinHandle, Threads};
 
-/// What a thread of an engine does, which takes a session along, as `Hand` has it.
+/// What a thread of an engine does. The thread takes a session along, in a `Hand`.
 pub trait Worker<H: Drop>: Drop {
     /// Works until its bell is closed and nothing is left to do, and gives its session back.
     fn work(self, rt: &impl Wait, hand: H) -> H;
 }
 
-/// What an engine without threads has in their place.
+/// What an engine without threads has in place of workers.
 #[derive(Clone, Copy, Debug, PartialEq, Eq)]
 pub struct NoWorker;
 
@@ -115,7 +115,7 @@ fn join_all<L: Kinds>(
 }
 
 impl<L: Kinds> Workers<L> {
-    /// No thread.
+    /// Makes a value without threads. `start` adds them.
     pub fn none(signals: Arc<Signals<Global>, Global>, alloc: Global) -> Workers<L>
         ensures { (vec_len result.flushers ≡ 0) × (vec_len result.reclaimers ≡ 0) }
     {
@@ -126,7 +126,9 @@ impl<L: Kinds> Workers<L> {
         }
     }
 
-    /// Starts a thread for each flusher and each reclaimer. Errors: AllocError if a thread can't be made. Those that were made stay.
+    /// Starts a thread for each flusher and each reclaimer, each with one part of the session. No thread may have been started before,
+    /// and the session must have more parts than there are workers. Errors: AllocError if memory is refused or a thread can't be made.
+    /// The threads that were made stay, and the part of the one that can't be made is lost.
     pub fn start<F, W, R>(
         &mut self,
         rt: R,
@@ -148,9 +150,9 @@ impl<L: Kinds> Workers<L> {
         start_each(rt, reclaimers, session, &mut self.reclaimers)
     }
 
-    /// Has the threads do what is left to do and end, the flushers first, since they may need a reclaim; joins them, and their
-    /// sessions into this one, which keeps its briefs: they made no put, no delete and no load. It comes after the engine's `close`:
-    /// what is queued later may not be written, and no wait lasts.
+    /// Lets the threads finish what is left to do, and joins them: the flushers first, since they may need a reclaim. Joins the threads'
+    /// sessions into this one, which keeps its own briefs. The threads made no put, no delete and no load. Call the engine's `close`
+    /// before: what is queued later may not be written, and later waits wait for nothing.
     #[tactic(auto, using(foyer_storage_engine::proofs::HoldingLemmas::held_on))]
     pub fn join<R: Threads + Wait>(self, rt: &R, session: Session<L>) -> Session<L>
         ensures parts { result.shares.parts ≡ session.shares.parts + vec_len self.flushers + vec_len self.reclaimers }

@@ -1,4 +1,4 @@
-//! `foyerdisk DIR CAPACITY BLOCK`: a disk cache that is asked by lines.
+//! `foyerdisk DIR CAPACITY BLOCK`: a disk cache that takes its requests as lines.
 #![tactic(auto)]
 
 use foyer_core_tally::book::Blanks;

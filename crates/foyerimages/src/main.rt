@@ -1,6 +1,7 @@
-//! `foyerimages` opens directories that have a log of deletes, one after the other, and asks each for keys. A line of its input is a
-//! directory, the bytes of its capacity and of a block, and keys. Each key is answered by a line, and an empty line follows. If a directory
-//! can't be opened, its fault is all. A key is its own hash, and none is compared. `soak/images.py` runs it.
+//! `foyerimages` opens directories with a log of deletes, one after the other, and gets keys from each. A line of its input has a
+//! directory, the capacity and the block size in bytes, and keys, with a space between each two. It prints a line for each key, and then
+//! an empty line. If a directory can't be opened, it prints the fault and an empty line. A key is its own hash. A get doesn't compare the
+//! record's key. `soak/images.py` runs it.
 #![tactic(auto)]
 
 use foyer_block_tombstone::block::tombstone::{TombstoneLog, log_pages};
@@ -54,7 +55,7 @@ fn files_of(rt: &HostRuntime, paths: &[String]) -> Result<PsyncIoEngine<Global>>
     PsyncIoEngineConfig::new().build(rt, &IoEngineBuildContext { files: paths })
 }
 
-// An engine over a directory, the first file of which is its log.
+// An engine over a directory, whose first file is the log of deletes.
 fn open(
     rt: &HostRuntime,
     directory: &str,

@@ -1,4 +1,4 @@
-//! `foyerpipe DIR CAPACITY BLOCK [NAME=VALUE..]`: a disk cache of byte strings that is asked by frames.
+//! `foyerpipe DIR CAPACITY BLOCK [NAME=VALUE..]`: a disk cache of byte strings that takes its requests as frames.
 #![tactic(auto)]
 
 use foyer_pipe::serve::serve;

@@ -1,4 +1,4 @@
-//! `foyersoak DIR CAPACITY BLOCK THREADS CALLS SEED CORES`: threads that ask one store at once, and judge each answer.
+//! `foyersoak DIR CAPACITY BLOCK THREADS CALLS SEED CORES`: threads that call one store at once, and judge each answer.
 #![tactic(auto)]
 
 use foyer_soak::soak::soak;

@@ -28,30 +28,30 @@ pub struct EvictionInfo<'a> {
     pub clean: usize,
 }
 
-/// Chooses the block that is reclaimed next. Callers box theirs.
+/// Chooses the block that is reclaimed next. A picker of a caller's own goes into `AnyPicker::Boxed`.
 pub trait EvictionPicker: Drop {
-    // What it picks, of its state and of what it sees.
+    // What a picker picks, by its state and what it sees.
     ghost answer: { Self → Info → Option ℕ };
 
-    // And what it puts on probation then.
+    // What it then puts on probation.
     ghost marks: { Self → Info → List ℕ };
 
-    // How it may be once a block has become evictable, and once one is reclaimed, of how it was and of what it sees then; of
-    // one that doesn't say, anyhow.
+    // What a picker may become after a block became evictable (`learns`), or after a block is reclaimed (`forgets`), by its state before
+    // and what it sees then. If an impl leaves them out, anything.
     ghost learns: { Self → Info → ℕ → Self → Type 0 } = { λ _ _ _ _. Unit {0} };
 
     ghost forgets: { Self → Info → ℕ → Self → Type 0 } = { λ _ _ _ _. Unit {0} };
 
-    // How it may be once it was described these blocks, of such a size, of how it was; of one that doesn't say, anyhow.
+    // What a picker may become when `init` gives it these blocks and their size, by its state before. If an impl leaves it out, anything.
     ghost begins: { Self → List ℕ → ℕ → Self → Type 0 } = { λ _ _ _ _. Unit {0} };
 
-    /// Describes it the blocks, before all else.
+    /// Gives the picker the ids of the blocks and their size, before all else. Errors: `Memory`.
     fn init(&mut self, alloc: Global, blocks: &[BlockId], block_size: usize) -> Result<()>
         ensures begins { OnOk result (begins self.old blocks.now block_size self.new) }
         ensures refused { IsOkUnless result Memory };
 
-    /// The block that it picks; one that isn't evictable is no pick. The ids that it puts into `probation`, which comes
-    /// empty with room for every block, are marked if they are evictable.
+    /// Gives the block that the picker picks. An answer that isn't evictable counts as no pick. The ids that it puts into `probation` are
+    /// marked if they are evictable. The caller passes `probation` empty, with room for every block.
     fn pick(&self, info: EvictionInfo<'_>, probation: &mut Vec<BlockId>) -> Option<BlockId>
         requires empty { probation.old.items ≡ [] }
         requires room { length info.blocks.now ≤ vec_capacity probation.old }
@@ -142,8 +142,8 @@ pub(crate) fn consult<P: EvictionPicker, A: Allocator>(
     Ok(None)
 }
 
-/// Describes these blocks, of such a size, to each picker in order. Errors: `Memory` if a picker is refused memory. The pickers before it
-/// know the blocks then.
+/// Gives the ids of these blocks and their size to each picker, in order. Errors: `Memory` if a picker is refused memory. The pickers
+/// before it have them then.
 pub fn init_all<P: EvictionPicker>(
     pickers: &mut [P],
     alloc: Global,
@@ -160,7 +160,7 @@ pub fn init_all<P: EvictionPicker>(
     Ok(())
 }
 
-// Each picker is shown that a block has become evictable.
+// Notifies each picker that a block has become evictable.
 pub(crate) fn show_evictable<P: EvictionPicker>(
     pickers: &mut [P],
     info: EvictionInfo<'_>,
@@ -173,7 +173,7 @@ pub(crate) fn show_evictable<P: EvictionPicker>(
     }
 }
 
-// Each picker is shown that a block is reclaimed.
+// Notifies each picker that a block is reclaimed.
 pub(crate) fn show_evict<P: EvictionPicker>(pickers: &mut [P], info: EvictionInfo<'_>, id: BlockId)
     ensures { AreShown P.forgets (picker_info info.entry.blocks.now info.entry.evictable.now info.entry.clean) id pickers.old pickers.new }
 {

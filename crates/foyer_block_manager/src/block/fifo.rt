@@ -53,7 +53,8 @@ fn part_of(num: u32, den: u32, blocks: usize) -> usize
 }
 
 impl FifoPicker {
-    /// As many blocks as `num / den` of all shall be clean or on probation.
+    /// Gives a picker that wants the part `num / den` of all blocks to be clean or on probation. `den` must be more than 0, and `num` at
+    /// most `den`.
     pub fn new(num: u32, den: u32) -> FifoPicker
         requires { (0 < den) × (num ≤ den) }
         ensures { result ≡ record { num = num; den = den; queue = []; room = 0; probations = 0 } }
@@ -70,7 +71,7 @@ impl FifoPicker {
 impl Default for FifoPicker {
     ghost is_default = { λ p. p ≡ record { num = 1; den = 10; queue = []; room = 0; probations = 0 } };
 
-    /// A tenth of the blocks.
+    /// Gives a picker that wants a tenth of all blocks to be clean or on probation.
     fn default() -> FifoPicker {
         FifoPicker::new(1, 10)
     }

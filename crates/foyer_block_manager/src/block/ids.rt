@@ -13,7 +13,7 @@ use std::marker::Model;
 #[derive(Drop)]
 pub struct IdSet<A: Allocator> {
     ids: Vec<BlockId, A>,
-    // Of each id below the bound its position in `ids`; of one that isn't there any number.
+    // For each id below the bound that is in the set, its position in `ids`. For other ids, any number.
     at: Vec<u32, A>,
 }
 
@@ -29,7 +29,7 @@ impl<A: Allocator> Model for IdSet<A> {
 }
 
 impl<A: Allocator> IdSet<A> {
-    // No id, and room for all below the bound.
+    // An empty set, with room for all ids below the bound.
     pub(crate) fn new(alloc: &A, bound: u32) -> Result<IdSet<A>>
     where
         A: Clone,
@@ -42,7 +42,7 @@ impl<A: Allocator> IdSet<A> {
         Ok(IdSet { ids, at })
     }
 
-    /// All ids below the bound, in order. `Memory` alone.
+    /// Gives all ids below the bound, in order. Errors: `Memory`.
     pub fn full(alloc: &A, bound: u32) -> Result<IdSet<A>>
     where
         A: Clone,
@@ -88,7 +88,7 @@ impl<A: Allocator> IdSet<A> {
         self.at[id as usize] = position as u32;
     }
 
-    /// An id leaves the set; the others may change their order.
+    /// Removes an id, which must be in the set. The others may change their order.
     pub fn remove(&mut self, id: BlockId)
         requires { is_id_in id self.old.ids ≡ true }
         ensures ids { IsWithout id self.old.ids self.new.ids }

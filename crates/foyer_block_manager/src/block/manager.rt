@@ -89,7 +89,8 @@ fn is_reclaiming<A: Allocator>(blocks: &Vec<BlockState, A>, block: BlockId) -> b
     }
 }
 
-// How often a block was handed out or destroyed; of one that isn't there the greatest number, so that none hands it out.
+// Gives how often a block was handed out or destroyed. If the block isn't there, it gives the greatest number, so that the block is never
+// handed out.
 fn filling_of<A: Allocator>(blocks: &Vec<BlockState, A>, block: BlockId) -> u64
     ensures { result ≡ filling_in blocks.now.items block }
 {
@@ -99,7 +100,7 @@ fn filling_of<A: Allocator>(blocks: &Vec<BlockState, A>, block: BlockId) -> u64
     }
 }
 
-// What pickers know of a block; of one that isn't there nothing.
+// Gives the statistics of a block. If the block isn't there, they are those of a clean one.
 fn statistics_of<A: Allocator>(blocks: &Vec<BlockState, A>, block: BlockId) -> BlockStatistics
     ensures { result ≡ statistics_of (slice_get blocks.now.items block) }
 {
@@ -170,7 +171,7 @@ fn hand_out<A: Allocator>(
     block
 }
 
-// Of a block that was just cleaned.
+// The statistics of a block that was just cleaned.
 const NO_STATISTICS: BlockStatistics = BlockStatistics {
     invalid: 0,
     access: 0,
@@ -283,7 +284,7 @@ impl<A: Allocator> BlockManager<A> {
         }
     }
 
-    /// The block of this id.
+    /// The block of this id, which must be there.
     pub fn block(&self, id: BlockId) -> Block
         requires { id < length self.now.blocks }
         ensures { result ≡ block_of self.now id }
@@ -319,8 +320,9 @@ impl<A: Allocator> BlockManager<A> {
         is_reclaiming(&self.blocks, id)
     }
 
-    /// A flusher asks for a block: it gets the one that it was given while it waited, else the one that has been clean
-    /// longest, in a new filling. With none it waits.
+    /// Gives a flusher the block that it was given while it waited, else the block that has been clean longest, in a new filling. It gives
+    /// no clean block while a destroy cleans, and none whose count of fillings is at its end. If there is no block, the flusher waits. The
+    /// flusher must be there.
     pub fn get_clean_block(&mut self, flusher: u32) -> GetCleanBlockHandle
         requires { flusher < length self.old.ready }
         ensures same { HasSameRules self.old self.new }
@@ -342,7 +344,7 @@ impl<A: Allocator> BlockManager<A> {
         Some(self.block_of(block))
     }
 
-    /// A flusher is done with its block, which may be reclaimed from now on; the pickers learn of it.
+    /// Makes a block evictable that a flusher writes. The block must be written. The pickers are notified of it.
     pub fn on_writing_finish<P: EvictionPicker>(&mut self, pickers: &mut [P], block: BlockId)
         requires { IsWritten self.old block }
         ensures same { HasSameRules self.old self.new }
@@ -376,8 +378,9 @@ impl<A: Allocator> BlockManager<A> {
     }
 
     /// Begins the reclaim of a block, if a reclaim may begin. The block is the first evictable one that a picker picks, in the order of the
-    /// pickers. If no picker picks one, the generator chooses. Gives `None` if no reclaim may begin. Errors: `Memory`, which
-    /// changes nothing.
+    /// pickers. If no picker picks one, the generator chooses. Blocks that the asked pickers put on probation are marked, if they are
+    /// evictable. `own` is memory for the pickers' lists. Gives `None` if no reclaim may begin. Errors: `Memory`, which changes nothing but
+    /// `own`.
     pub fn reclaim_begin<P: EvictionPicker, G: Rng>(
         &mut self,
         alloc: &A,
@@ -436,8 +439,8 @@ impl<A: Allocator> BlockManager<A> {
         }))
     }
 
-    /// The reclaim of a block has ended. The block goes to the flusher that began to wait last, in a new filling, and
-    /// that flusher is answered; else it is clean.
+    /// Ends the reclaim of a block, which must be reclaimed. The block goes to the flusher that began to wait last, in a new filling, and
+    /// that flusher is the answer. If none waits, or the block's count of fillings is at its end, the block is clean.
     pub fn on_reclaim_finish(&mut self, block: BlockId) -> Option<u32>
         requires { IsReclaimed self.old block }
         ensures same { HasSameRules self.old self.new }

@@ -1,4 +1,4 @@
-//! Ids in the order in which they came, each once.
+//! Ids in the order in which they were queued, each once.
 ghost use Rattle.std.specs.Prelude.{◌≡◌, ◌+◌, ◌<◌, ◌≤◌, ℕ, List, [], ◌++◌, ◌∷◌, length, take, nat_lt, true, IfOk, IsOkUnless, vec_len, vec_capacity, slice_get, slice_set};
 ghost use Rattle.std.specs.VecDeque.{deque_capacity, deque_len};
 ghost use Rattle.std.specs.List.{filter};
@@ -17,7 +17,7 @@ use std::marker::Model;
 #[derive(Debug, Drop)]
 pub(crate) struct Queue {
     ids: VecDeque<BlockId>,
-    // By id whether it is queued; an id beyond is looked for.
+    // Whether each id below the room is queued. For other ids the queue is searched.
     is_queued: Vec<bool>,
 }
 
@@ -81,7 +81,7 @@ fn add_if_evictable(blocks: &[BlockState], id: BlockId, found: &mut Vec<BlockId>
     }
 }
 
-// Of the first `count` ids those that are evictable.
+// Puts the evictable ones among the first `count` ids into `found`.
 fn evictable_of(
     ids: &VecDeque<BlockId>,
     count: usize,
@@ -102,7 +102,7 @@ fn evictable_of(
 impl Queue {
     ghost use Rattle.foyer_block_manager.specs.Queues.{queued_with, queued_without};
 
-    // No id, and room for so many.
+    // An empty queue with room for `room` ids.
     pub(crate) fn new(alloc: Global, room: usize) -> Result<Queue>
         ensures made { IfOk result (λ q. q ≡ record { ids = []; room = room }) }
         ensures refused { IsOkUnless result Memory }
@@ -128,7 +128,7 @@ impl Queue {
         self.ids.len() < self.ids.capacity()
     }
 
-    // Behind the others, unless it is there already or finds no room.
+    // Appends an id, unless it is there already or there is no room.
     pub(crate) fn push(&mut self, id: BlockId)
         ensures { self.new ≡ queued_with self.old id }
     {
@@ -152,7 +152,7 @@ impl Queue {
         front_of(&self.ids)
     }
 
-    // Of the oldest ids, as many as are wanted, those that are evictable.
+    // Puts the evictable ones among the `wanted` oldest ids into `found`.
     pub(crate) fn oldest_evictable(
         &self,
         wanted: usize,

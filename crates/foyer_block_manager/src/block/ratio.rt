@@ -66,7 +66,7 @@ fn worst_of(blocks: &[BlockState], evictable: &[BlockId]) -> Option<BlockId>
 }
 
 impl InvalidRatioPicker {
-    /// The least ratio is `num / den`; above 1 it counts as 1.
+    /// Gives a picker with the least ratio `num / den`, which counts as 1 if it is above 1. `den` must be more than 0.
     pub fn new(num: u32, den: u32) -> InvalidRatioPicker
         requires { 0 < den }
         ensures { result ≡ record { num = (if nat_lt den num then den else num); den = den; block_size = 0 } }

@@ -38,7 +38,7 @@ pub struct BlockState {
     pub statistics: BlockStatistics,
 }
 
-/// A block, as the manager tells of it: what is known of it at that moment.
+/// A block as the manager gives it, with what was known of it at that moment.
 #[derive(Debug, Drop)]
 pub struct Block {
     pub(crate) id: BlockId,

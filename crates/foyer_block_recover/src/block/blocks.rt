@@ -21,10 +21,10 @@ use foyer_device_page::error::{Error, Result};
 use foyer_io_disk::disk::Disk;
 use std::alloc::Allocator;
 
-// So many entries are gathered at least before they go into the index.
+// At least this many entries are gathered before they go into the index, except at the end.
 const LEAST_GATHERED: usize = 4096;
 
-// What the blocks keep that were read so far.
+// What is kept of the blocks that were read so far.
 #[derive(Drop)]
 pub(crate) struct BlocksRead<A: Allocator> {
     pub(crate) index: Indexer<A>,
@@ -37,7 +37,7 @@ pub(crate) struct BlocksRead<A: Allocator> {
 }
 
 impl<A: Allocator + Clone> BlocksRead<A> {
-    // Of no block.
+    // What is kept of no blocks.
     fn none(alloc: &A, shards: usize) -> Result<BlocksRead<A>>
         requires { 0 < shards }
         ensures none { IfOk result (λ read. (keeps : ℕ → List BlobEntryIndex) → HoldsKept read 0 keeps) }
@@ -94,7 +94,7 @@ impl<A: Allocator + Clone> BlocksRead<A> {
     }
 }
 
-// The clean blocks of an opening that reads none.
+// What an opening that reads no block keeps: each block is clean.
 pub(crate) fn read_none<A: Allocator + Clone>(
     alloc: &A,
     blocks: u32,
@@ -112,8 +112,8 @@ pub(crate) fn read_none<A: Allocator + Clone>(
     Ok(read)
 }
 
-// Gives what each block keeps: by the block's listing if one came, else by reading its chain. Errors: `Recover` if a failed read ends a
-// chain and that isn't allowed.
+// Gives what each block keeps: from the block's listing if one was given, else by reading the block's chain. Errors: `Recover` if a failed
+// read ends a chain and that isn't allowed; `Memory` if an allocation was refused.
 pub(crate) fn read_blocks<A: Allocator + Clone, D: Disk>(
     alloc: &A,
     disk: &mut D,

@@ -22,7 +22,7 @@ pub(crate) struct IndexRead<A: Allocator> {
     pub(crate) came: bool,
 }
 
-// What a block's chain gave: the entries that are kept, and whether a failed read ended it. The buffer is handed back.
+// What a block's chain gave: the entries that are kept, and whether a failed read ended it. The buffer is the one that was passed in.
 #[derive(Drop)]
 pub(crate) struct Chain<A: Allocator> {
     pub(crate) buffer: Vec<u8, A>,

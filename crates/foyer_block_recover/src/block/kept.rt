@@ -19,8 +19,8 @@ fn in_range(hash: u64) -> u64
     hash
 }
 
-// Appends the infos up to the first whose sequence is below the sequence before it. `last` is the sequence before the first info, or
-// `None` if a fall was met already. Gives the last sequence that was appended, or `None` behind a fall.
+// Appends the infos up to the first whose sequence is below the sequence before it. `last` is the sequence before the first info, or `None`
+// if such a fall was met already. Gives the last sequence that was appended, or `None` if a fall was met.
 fn keep_rising<A: Allocator>(
     kept: &mut Vec<HashedEntryAddress, A>,
     last: Option<Sequence>,

@@ -1,4 +1,4 @@
-//! What one block lists, as a worker of a recovery read it, and the listings that came, by block.
+//! What one block lists, as a worker of a recovery read it, and the listings that a recovery is given, by block.
 ghost use Rattle.std.specs.Prelude.{◌≡◌, ℕ, ◌<◌, ◌≤◌, ◌^◌, [], Bool, vec_len, replicate, slice_get, slice_set, Some, None, true, IfOk, IfSome, IsOkUnless};
 ghost use Rattle.std.specs.Bool.{OnTrue, OnFalse};
 ghost use Rattle.foyer_device_page.specs.declared.error.Error.TheVariants.{Memory};
@@ -63,7 +63,7 @@ impl<A: Allocator, D: Disk> Model for BlockListing<A, D> {
 }
 
 impl<A: Allocator + Clone, D: Disk> BlockListing<A, D> {
-    // Reads the chain of a block with a buffer of one index, which is handed back.
+    // Reads the chain of a block with a buffer of one index, and returns the buffer beside the listing.
     pub(crate) fn read(
         alloc: &A,
         disk: &mut D,
@@ -107,7 +107,7 @@ impl<A: Allocator + Clone, D: Disk> BlockListing<A, D> {
 }
 
 impl<A: Allocator, D: Disk> BlockListing<A, D> {
-    /// The block that it is of.
+    /// Gives the block that was listed.
     pub fn block(&self) -> BlockId
         ensures { result ≡ self.now.block }
     {
@@ -139,7 +139,8 @@ impl<A: Allocator, D: Disk> BlockListing<A, D> {
     }
 }
 
-// What is kept of a block, behind what a batch has: by the listing that came of it, else by reading its chain.
+// Appends what is kept of a block to what a batch has in `kept`: from the block's listing if one was given, else by reading the block's
+// chain.
 pub(crate) fn list_chain<A: Allocator + Clone, D: Disk>(
     alloc: &A,
     disk: &mut D,
@@ -180,7 +181,7 @@ pub(crate) fn list_chain<A: Allocator + Clone, D: Disk>(
     })
 }
 
-/// The listings that came of a disk's blocks, in whatever order: of each block one at most.
+/// The listings of a disk's blocks, at most one of each block. They may be added in any order.
 #[derive(Drop)]
 pub struct Listings<A: Allocator, D: Disk> {
     // By block.
@@ -188,7 +189,7 @@ pub struct Listings<A: Allocator, D: Disk> {
 }
 
 impl<A: Allocator, D: Disk> Listings<A, D> {
-    /// With room for none: a recovery that is given it reads each block by itself.
+    /// Gives listings without room for one. A recovery that is given them reads each block itself.
     pub fn none(alloc: A) -> Listings<A, D>
         ensures { result.slots.items ≡ [] }
     {
@@ -197,7 +198,7 @@ impl<A: Allocator, D: Disk> Listings<A, D> {
         }
     }
 
-    /// With room for a listing of each of so many blocks. `Memory` is the only refusal.
+    /// Gives empty listings, with room for one of each of `blocks` blocks. Errors: `Memory`.
     pub fn new(alloc: A, blocks: u32) -> Result<Listings<A, D>>
         ensures empty { IfOk result (λ listings. listings.slots.items ≡ replicate blocks None) }
         ensures refused { IsOkUnless result Memory }
@@ -225,7 +226,7 @@ impl<A: Allocator, D: Disk> Listings<A, D> {
         true
     }
 
-    // Takes what came of a block out, and gives it, unless it is of another block or other sizes.
+    // Takes out the listing at a block's place. Gives it if it is of this block and of these sizes.
     pub(crate) fn take(
         &mut self,
         block: BlockId,
@@ -243,7 +244,7 @@ impl<A: Allocator, D: Disk> Listings<A, D> {
     }
 }
 
-// Takes what came of a block out.
+// Takes out the listing at a block's place, if there is one, and gives it.
 fn take_at<A: Allocator, D: Disk>(
     slots: &mut Vec<Option<BlockListing<A, D>>, A>,
     block: BlockId,

@@ -1,4 +1,4 @@
-//! The marks of deletes, behind what the blocks keep.
+//! The marks of deletes, which are applied after what the blocks keep.
 ghost use Rattle.std.specs.Prelude.{◌≡◌, ◌++◌, List};
 ghost use Rattle.foyer_block_recover.specs.BlocksKept.{IsWithoutOlder, HoldsFound};
 ghost use Rattle.foyer_block_recover.specs.Opening.{Found, all_marked};
@@ -23,7 +23,7 @@ fn remove_older<A: Allocator + Clone>(index: &mut Indexer<A>, mark: &Tombstone)
 }
 
 impl<A: Allocator + Clone> BlocksRead<A> {
-    // Takes in the marks, which come behind all entries: a hash that a mark wins has nothing.
+    // Applies the marks after all entries: a hash whose greatest sequence is a mark's has nothing.
     pub(crate) fn take_marks(&mut self, marks: &[Tombstone])
         ensures taken { (found : List Found) → HoldsFound self.old found
             → HoldsFound self.new (found ++ all_marked (marks_of marks.now)) }

@@ -25,14 +25,14 @@ pub enum RecoverMode {
     /// It keeps what was listed before a read failed.
     #[default]
     Quiet,
-    /// A failed read refuses it.
+    /// A failed read makes the opening fail.
     Strict,
 }
 
-/// What an opening begins with.
+/// What a recovery gives.
 #[derive(Drop)]
 pub struct Recovered<A: Allocator> {
-    /// The address of each hash that an entry won.
+    /// The addresses that were found, by their hashes. A hash whose greatest sequence is a mark's has none.
     pub index: Indexer<A>,
     /// The sequence of the next put or delete.
     pub next: Sequence,
@@ -40,8 +40,8 @@ pub struct Recovered<A: Allocator> {
     pub clean: Vec<BlockId, A>,
 }
 
-/// The recovery of a disk's blocks: by `run` alone, or by workers, each of which lists some of the blocks by `list`, and then by
-/// `run_with`, which takes what they listed and reads what nobody did.
+/// The recovery of a disk's blocks. Either `run` reads all blocks. Or workers list some blocks each by `list`, and `run_with` takes their
+/// listings and reads the other blocks.
 #[derive(Clone, Copy, Debug)]
 pub struct RecoverRunner {
     pub mode: RecoverMode,
@@ -109,13 +109,18 @@ impl RecoverRunner {
         }
     }
 
-    /// Reads the indices of all blocks, one block after the other. From these and the marks of deletes it makes the index, of so many shards,
-    /// the next sequence and the clean blocks. It allocates a buffer of one index, what it gives, and entries that are gathered before they
-    /// are inserted. These are 4,096 entries, or an eighth of those before, and one block's. To order them it takes up to twice their bytes
-    /// more. If that is refused, they go in unordered, which is slower.
+    /// Reads the indices of all blocks, one block after the other. From these and the marks of deletes it makes the index, which has
+    /// `shards` shards, the next sequence, and the list of clean blocks. In `None` it reads nothing, and each block is clean. It allocates
+    /// a buffer of one index, the entries of one index, what it gives, and entries that are gathered before they are inserted. These are
+    /// 4,096 entries, or an eighth of those before, and one block's. To order them it takes up to twice their bytes more. If that is
+    /// refused, they go in unordered, which is slower.
     ///
-    /// Errors: `Recover` if a read failed in `Strict`; else `SequenceEnd` if an entry that is kept, or a mark, has the last sequence; `Memory`
-    /// at any time. What is on the disk stays as it is. Whatever was read, each address that is found lies within its block.
+    /// An index must be whole pages, at least one, and smaller than a block. A block must have at most 2^32 bytes. `shards` must be at
+    /// least 1.
+    ///
+    /// Errors: `Recover` in `Strict` if a failed read cut a block short. Else `SequenceEnd` if an entry that is kept, or a mark, has the
+    /// last sequence. `Memory` at any time. What is on the disk stays as it is. Whatever was read, each address that is found lies within
+    /// its block.
     pub fn run<A: Allocator + Clone, D: Disk>(
         &self,
         alloc: &A,
@@ -146,9 +151,9 @@ impl RecoverRunner {
         self.run_with(alloc, disk, shards, marks, none)
     }
 
-    /// The same with what workers listed, in whatever order it came: of each block of which a listing came this takes what it
-    /// keeps, and reads each other block by itself. A listing of other sizes is no listing. Whatever bytes the listings list,
-    /// together with those that the disk has in the other blocks: this gives the opening of these bytes.
+    /// The same as `run`, with listings that workers added in any order. It takes what each listing keeps, and reads each block without a
+    /// listing itself. A listing of other sizes is ignored. The result is the opening of the bytes that the listings list, together with
+    /// the disk's bytes of the other blocks.
     pub fn run_with<A: Allocator + Clone, D: Disk>(
         &self,
         alloc: &A,
@@ -194,7 +199,7 @@ impl RecoverRunner {
         Ok(Recovered { index, next, clean })
     }
 
-    // Appends a listing of a block, if it is the worker's. The buffer is handed back.
+    // Appends a listing of a block, if the block is the worker's. Returns the buffer.
     fn list_block<A: Allocator + Clone, D: Disk>(
         &self,
         alloc: &A,
@@ -231,10 +236,10 @@ impl RecoverRunner {
         Ok(again)
     }
 
-    /// Reads the chains of one worker's blocks, those whose id modulo the number of workers is its own, in ascending order, and
-    /// appends a listing of each; in `None` it reads nothing. Allocates a buffer of one index, and what is listed.
+    /// Reads the chain of each block whose id modulo `workers` is `worker`, in ascending order, and appends a listing of each. In `None` it
+    /// reads nothing. It allocates a buffer of one index, the entries of one index, and what is listed. There must be at least one worker.
     ///
-    /// `Memory` is the only refusal: what was listed before stays, and the blocks that aren't are `run_with`'s.
+    /// Errors: `Memory`. Listings that were appended before stay, and `run_with` reads the blocks without one.
     pub fn list<A: Allocator + Clone, D: Disk>(
         &self,
         alloc: &A,

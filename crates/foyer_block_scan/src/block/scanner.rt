@@ -23,8 +23,8 @@ pub struct EntryInfo {
     pub addr: EntryAddress,
 }
 
-/// The scan of a block in one of its fillings. It reads nothing: whoever drives it reads the index at its offset, and
-/// gives it what came.
+/// The scan of a block in one of its fillings. It reads nothing: whoever drives it reads the index at its offset, and passes it the bytes,
+/// or says that the read failed.
 #[derive(Drop)]
 pub struct BlockScanner {
     block: BlockId,
@@ -134,7 +134,8 @@ fn blob_end(
 }
 
 impl BlockScanner {
-    /// A scan of a block in a filling, at the block's start.
+    /// Gives a scan of a block in a filling, at the block's start. `block_size` must be at most 2^32. If a block has no room for an index,
+    /// the scan has ended.
     pub fn new(block: BlockId, filling: u64, block_size: usize, index_size: usize) -> BlockScanner
         requires { block_size ≤ 2 ^ 32 }
         ensures sizes { (result.block ≡ block) × (result.filling ≡ filling)
@@ -175,9 +176,9 @@ impl BlockScanner {
         self.blob_offset
     }
 
-    /// Takes the bytes of the offset. Gives `Some` with the entries of their index, whose offsets count from the block's start. Gives `None`
-    /// if the bytes are no index, or an index with an entry that doesn't fit. Then the scan has ended. Errors: `Memory`, which leaves the
-    /// scan as it was.
+    /// Takes the bytes that were read at the offset. Gives `Some` with the entries of their index, whose offsets count from the block's
+    /// start. Gives `None` if the bytes are no index, or an index with an entry that doesn't fit, or if the scan had ended. Then the scan
+    /// has ended. Errors: `Memory`, which leaves the scan as it was.
     pub fn next<A: Allocator + Clone>(
         &mut self,
         alloc: &A,
@@ -217,7 +218,7 @@ impl BlockScanner {
         Ok(Some(infos))
     }
 
-    /// The read of the offset failed: the scan has ended.
+    /// Ends the scan, because the read at its offset failed.
     pub fn fail(&mut self)
         ensures { self.new ≡ (scan_end self.old).scan }
     {

@@ -127,9 +127,9 @@ impl<K, V, P, A: Allocator + Clone> Flusher<K, V, P, A> {
         }
     }
 
-    /// Ends the batch: its marks leave the index, what they made invalid counts unless the log of deletes failed, and
-    /// what it has is given back. Its pages are kept, to be filled again, unless somebody still has a part of them. It
-    /// doesn't allocate.
+    /// Ends the batch, which must have nothing left to write, and gives its pieces and waits. Its marks leave the index. What they made
+    /// invalid counts, unless the log of deletes failed. Its pages are kept, to be filled again, unless somebody still has a part of them.
+    /// It doesn't allocate.
     pub fn end(
         &mut self,
         index: &mut Indexer<A>,

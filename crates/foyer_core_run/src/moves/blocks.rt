@@ -17,7 +17,7 @@ use foyer_io_disk::disk::Disk;
 use foyer_policy_filter::StorageFilterCondition;
 use std::alloc::Allocator;
 
-// Does the read that the reclaim of a block issued, if one is due, brings what came of it, and notes what is read next.
+// Does the read that the reclaim of a block issued, if one is due. Reports the outcome to the core, and notes what is read next.
 pub(crate) fn reclaim_read<K, V, P, A, D, E, C>(
     core: &mut Core<K, V, P, A>,
     env: &mut Env<E, C>,
@@ -60,7 +60,7 @@ where
     kept.replies.push_reserved(reply);
 }
 
-// Does the clean of a block, if one is due, and brings what came of it to the reclaim of this block.
+// Does the clean of a block, if one is due, and reports the outcome to the reclaim of this block.
 pub(crate) fn reclaim_cleaned<K, V, P, A, D, E, C>(
     core: &mut Core<K, V, P, A>,
     env: &mut Env<E, C>,
@@ -103,7 +103,7 @@ where
     kept.replies.push_reserved(reply);
 }
 
-// Does the clean of a block, if one is due, and brings what came of it to the destroy.
+// Does the clean of a block, if one is due, and reports the outcome to the destroy.
 pub(crate) fn destroy_cleaned<K, V, P, A, D, E, C>(
     core: &mut Core<K, V, P, A>,
     env: &mut Env<E, C>,

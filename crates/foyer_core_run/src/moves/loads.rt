@@ -16,7 +16,7 @@ use foyer_io_disk::disk::Disk;
 use foyer_policy_filter::StorageFilterCondition;
 use std::alloc::{AllocError, Allocator};
 
-// Does the read of a ticket, if it is due, and brings what came of it.
+// Does the read of a ticket, if it is due, and reports the outcome to the core.
 pub(crate) fn load_end<K, V, P, A, D, E, C>(
     core: &mut Core<K, V, P, A>,
     env: &mut Env<E, C>,

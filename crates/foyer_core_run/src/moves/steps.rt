@@ -17,7 +17,7 @@ use foyer_format_record::serde::{Code, Properties};
 use foyer_policy_filter::StorageFilterCondition;
 use std::alloc::Allocator;
 
-// Which access of blocks a step issues, unless it comes back.
+// Which access of blocks a step issues, unless the core returns the step.
 #[derive(Clone, Copy, Debug)]
 enum Issuing {
     Nothing,

@@ -101,8 +101,8 @@ where
     kept.replies.push_reserved(reply);
 }
 
-// Does the write of a flusher that is due, if one is, and brings what came of it. After one that failed, and after a
-// step that came back, the block's others aren't done.
+// Does the write of a flusher that is due, if one is, and reports its outcome to the core. The block's other writes aren't done after a
+// write that failed, or after a report that the core returned.
 pub(crate) fn flush_wrote<K, V, P, A, D, E, C>(
     core: &mut Core<K, V, P, A>,
     env: &mut Env<E, C>,

@@ -1,4 +1,4 @@
-//! The step that ends a load, of which what was read is judged before: it gives the buffer of the read back.
+//! The step that ends a load. What was read is judged before this step, which gives the buffer of the read back.
 ghost use Rattle.foyer_core_steps.specs.Content.{meaning};
 ghost use Rattle.foyer_core_shared.specs.Briefs.{brief_of};
 ghost use Rattle.foyer_core_shared.specs.History.{BeginAlike, IsLegal, Made};
@@ -36,8 +36,9 @@ where
     C: StorageFilterCondition,
     N: Noting,
 {
-    /// Brings what was read for a ticket and judged, as `step` does with a `LoadEnd`. Gives the buffer of the read back beside
-    /// the reply, for the next read. No buffer comes back if the read failed, or if the step that is handed back has it.
+    /// Reports what was read for a ticket, as `step` does with a `LoadEnd`. Requires that `Judged::of` made `judged`. Returns the buffer of
+    /// the read beside the reply, for the next read. Returns no buffer if the read failed, or if the reply returns the step, which then has
+    /// the buffer. As with `step`, `Err` returns the step if memory for a note is refused.
     pub fn end_judged(
         &mut self,
         session: &mut Session<L>,

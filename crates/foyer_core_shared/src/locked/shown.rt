@@ -1,4 +1,4 @@
-//! What a session shows.
+//! What can be read from a session.
 ghost use Rattle.foyer_core_tally.specs.Tally.{listed, shown};
 ghost use Rattle.std.specs.Prelude.{◌≡◌, [], ◌∷◌};
 
@@ -7,22 +7,22 @@ use crate::brief::Brief;
 use foyer_core_tally::book::Kinds;
 
 impl<L: Kinds> Session<L> {
-    /// What it asked last and before that, each with the reply, newest first.
+    /// Gives its last two steps, each with its reply, the newest first.
     pub fn last(&self) -> [Option<Brief>; 2]
         ensures { result ≡ self.now.newest ∷ self.now.before ∷ [] }
     {
         [self.newest, self.before]
     }
 
-    /// How many steps of each kind were noted with it, in the order of the kinds; 2^64 - 1 stands for all numbers above.
+    /// Gives how many steps of each kind were noted with its share, in the order of the kinds. 2^64 - 1 means this many or more.
     pub fn tally(&self) -> [u64; 8]
         ensures { result ≡ listed (shown self.now.shares.amounts) }
     {
         self.shares.tally()
     }
 
-    /// How many closes it asked for, and how many steps of a destroy: its beginning, its clear, and the outcome of each clean; those that
-    /// were out of turn or refused too. 2^64 - 1 stands for all numbers above.
+    /// Gives how many `Close` steps it made, and how many steps of a destroy: `DestroyBegin`, `DestroyClear` and `DestroyCleaned`. Steps
+    /// that were out of turn or refused count too. 2^64 - 1 means this many or more.
     pub fn ends(&self) -> [u64; 2]
         ensures { result ≡ self.now.closes ∷ self.now.destroys ∷ [] }
     {

@@ -1,4 +1,4 @@
-//! The reclaims that run: of each block what its scan has listed so far, and which records are read back.
+//! The reclaims that run. Each has the entries that its scan has listed so far, and those whose records are read back.
 ghost use Rattle.std.specs.Prelude.{◌≡◌, ◌+◌, ◌<◌, ◌≤◌, ◌^◌, ◌++◌, ◌∷◌, [], map, length, true, false, None, vec_len, vec_capacity, IfOk, OnOk, OnErr, IfSome, IsOkUnless, Some};
 ghost use Rattle.std.specs.HashMap.{spare};
 ghost use Rattle.std.specs.List.{filter};
@@ -30,8 +30,8 @@ pub enum Wanted {
     Record(HashedEntryAddress),
 }
 
-/// The lists of a reclaim: the entries that its scan listed; those admitted whose records are yet to be read, of the index
-/// that was listed last; and those whose records were queued for reinsertion.
+/// The lists of a reclaim. The first has the entries that its scan listed. The second has the admitted entries whose records aren't read
+/// yet: all are of the index that was listed last. The third has the entries whose records were queued for reinsertion.
 #[derive(Drop)]
 pub struct Lists<A: Allocator> {
     listed: Vec<HashedEntryAddress, A>,
@@ -40,7 +40,7 @@ pub struct Lists<A: Allocator> {
 }
 
 impl<A: Allocator + Clone> Lists<A> {
-    /// Nothing. `Memory` alone.
+    /// Gives empty lists. Errors: `Memory` alone.
     pub fn new(alloc: &A) -> Result<Lists<A>>
         ensures listed { IfOk result (λ l. l.listed.items ≡ []) }
         ensures admitted { IfOk result (λ l. l.admitted.items ≡ []) }
@@ -160,7 +160,7 @@ fn leave_out<A: Allocator>(listed: &mut Vec<HashedEntryAddress, A>, requeued: &[
 }
 
 impl<A: Allocator + Clone> Reclaimer<A> {
-    /// The reclaim of a block in a filling, with lists that have nothing. It doesn't allocate.
+    /// Begins the reclaim of a block in a filling. Requires empty lists, and a block of at most 2^32 bytes. It doesn't allocate.
     pub fn new(
         lists: Lists<A>,
         block: BlockId,
@@ -179,7 +179,7 @@ impl<A: Allocator + Clone> Reclaimer<A> {
         }
     }
 
-    /// What is to be read next; `None` once all is listed, and each admitted record was read.
+    /// What is to be read next; `None` once the listing has ended, and no admitted record is left to be read.
     pub fn wanted(&self) -> Option<Wanted>
         ensures { result ≡ wanted_of (reclaiming self.now) }
     {
@@ -195,7 +195,7 @@ impl<A: Allocator + Clone> Reclaimer<A> {
         }
     }
 
-    /// Whether all is listed and read, and hasn't left the index yet.
+    /// Whether the listing has ended, no admitted record is left to be read, and what was listed hasn't left the index yet.
     pub fn is_listed(&self) -> bool
         ensures { result ≡ is_all_listed (reclaiming self.now) }
     {
@@ -209,9 +209,9 @@ impl<A: Allocator + Clone> Reclaimer<A> {
         self.is_forgotten
     }
 
-    /// Takes the bytes of the index that is wanted, and gives the verdict on each of its entries: whether the filter admits
-    /// an entry of this hash and length. Gives `None` if the bytes are no index, or if they are one with an entry that
-    /// doesn't fit. Then all entries are listed. Error: `Memory` alone, which changes nothing.
+    /// Takes the bytes of the index that is wanted, and gives the verdict on each of its entries: whether the filter admits an entry of
+    /// this hash and length. Gives `None` if the bytes are no index, or if they are one with an entry that doesn't fit. Then the listing
+    /// has ended. Errors: `Memory` alone. Nothing changes then.
     pub fn read<C: StorageFilterCondition>(
         &mut self,
         alloc: &A,
@@ -245,7 +245,7 @@ impl<A: Allocator + Clone> Reclaimer<A> {
         self.lists.requeued.len()
     }
 
-    /// The record that is wanted was read, and is queued for reinsertion. `Memory` alone, which changes nothing.
+    /// Notes that the wanted record was read and is queued for reinsertion. Errors: `Memory` alone. Nothing changes then.
     pub fn requeue(&mut self) -> Result<()>
         ensures noted { OnOk result (reclaiming self.new ≡ after_record (reclaiming self.old)) }
         ensures unchanged { OnErr result (reclaiming self.new ≡ reclaiming self.old) }
@@ -258,7 +258,7 @@ impl<A: Allocator + Clone> Reclaimer<A> {
         Ok(())
     }
 
-    /// The read failed: nothing more is listed or read.
+    /// Notes that the read failed: nothing more is listed or read.
     pub fn fail(&mut self)
         ensures { reclaiming self.new ≡ after_fault (reclaiming self.old) }
     {
@@ -277,8 +277,9 @@ impl<A: Allocator + Clone> Reclaimer<A> {
         self.is_forgotten = true;
     }
 
-    /// The block's clean has come, whether it failed or not: the reclaim is over. The block goes to the flusher that began
-    /// to wait last, in a new filling, and that flusher is answered; else it is clean. It doesn't allocate.
+    /// Ends the reclaim after the block's clean, failed or not. Requires that the block is being reclaimed. The block goes, in a new
+    /// filling, to the flusher that began to wait last. Gives this flusher. If no flusher waits, or the block's count of fillings is at its
+    /// end, the block is clean. It doesn't allocate.
     pub fn cleaned(self, manager: &mut BlockManager<A>, block: BlockId) -> Option<u32>
         requires { IsReclaimed manager.old block }
         ensures same { HasSameRules manager.old manager.new }
@@ -288,7 +289,7 @@ impl<A: Allocator + Clone> Reclaimer<A> {
     }
 }
 
-/// The calls by which the reclaim of a block goes on.
+/// The calls on a reclaim that has begun.
 pub trait ReclaimerTrait<A: Allocator + Clone> {
     ghost use Rattle.foyer_core_steps.specs.Reclaiming.{Reclaiming};
 

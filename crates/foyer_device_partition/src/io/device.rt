@@ -52,7 +52,7 @@ pub trait Partition {
     fn id(&self) -> PartitionId
         ensures { result ≡ number self.now };
 
-    /// Its bytes.
+    /// Its size in bytes.
     fn size(&self) -> usize
         ensures { result ≡ bytes self.now };
 
@@ -91,7 +91,7 @@ pub trait Device: Drop {
 
     ghost built_at: { Self → ℕ };
 
-    /// Gives the bytes that the device has. They are whole pages, except for those of a partial device.
+    /// The capacity in bytes. That of a file, a directory or a memory device is rounded down to whole pages.
     fn capacity(&self) -> usize
         ensures { result ≡ room self.now };
 
@@ -99,7 +99,7 @@ pub trait Device: Drop {
     fn allocated(&self) -> usize
         ensures { result ≡ total_size (sizes self.now) };
 
-    /// What the capacity has more than is allocated, saturating at 0.
+    /// The capacity minus what is allocated, saturating at 0.
     fn free(&self) -> usize
         ensures { result ≡ room self.now - total_size (sizes self.now) }
     {
@@ -122,11 +122,11 @@ pub trait Device: Drop {
     fn throttle(&self) -> &Throttle
         ensures { result.now ≡ limits self.now };
 
-    /// The moment at which it was built, in nanoseconds.
+    /// The moment at which it was built, in nanoseconds. A partial device has its device's.
     fn built_at(&self) -> u64
         ensures { result ≡ built_at self.now };
 
-    /// How many files it has. Its partitions lie in these, and no two share a byte.
+    /// How many files it has. Its partitions lie in these files, and no two partitions share a byte.
     fn file_count(&self) -> usize
         ensures count { result ≡ file_count self.now }
         ensures apart { AreDisjoint (extents self.now) }
@@ -142,8 +142,9 @@ pub trait Device: Drop {
     fn is_out_of_space(&self, size: usize) -> bool
         ensures { result ≡ lacks_space self.now size };
 
-    /// Makes a partition of that many bytes. Errors, in this order: Config if the size is 0 or not of whole pages, or
-    /// if no more partitions can be numbered; NoSpace; Io; Memory. After an error the partitions are as before.
+    /// Makes a partition of that many bytes. Errors: Config if the size is 0 or not of whole pages, or if no number is
+    /// left for a partition or a file; NoSpace if `is_out_of_space` gives true; Io if a file couldn't be made or sized;
+    /// Memory. After an error the partitions are as before.
     fn create_partition<R: Files>(&mut self, rt: &R, size: usize) -> Result<Self::Partition>
         ensures made { IfOk result (λ p. (sizes self.new ≡ sizes self.old ++ size ∷ [])
             × (extents self.new ≡ extents self.old ++ Self.Partition.extent p ∷ [])
@@ -233,14 +234,14 @@ pub trait DeviceBuilder<A: Allocator>: Sized {
     // The capacity of what it builds, or none if its settings are wrong.
     ghost capacity: { Self → Option ℕ };
 
-    // The limits of what it builds, and the moment from which that counts, of the moment at which it is built: a part
+    // The limits of what it builds, and the moment at which that was built, given the present moment. A partial device
     // has those of its device.
     ghost limits: { Self → Throttle };
 
     ghost built_at: { Self → ℕ → ℕ } = { λ _ now. now };
 
-    /// Builds the device. The device's statistics begin at the moment `now`, in nanoseconds. Errors: Config if the
-    /// settings are wrong, Io if a file or a directory couldn't be made, Memory.
+    /// Builds the device. Its `built_at` is `now`, in nanoseconds, but that of a partial device is its device's. Errors:
+    /// Config if the settings are wrong, Io if a file or a directory couldn't be made, Memory.
     fn build<R: Files>(self, rt: &R, alloc: A, now: u64) -> Result<Self::Device>
         ensures config { (result ≡ Err error.Config) ↔ (capacity self ≡ None) }
         ensures refused { IfErr result (λ e. (e ≡ error.Config) ⊎ (e ≡ error.Io) ⊎ (e ≡ error.Memory)) }

@@ -8,7 +8,7 @@ use crate::sinks::Sink;
 use foyer_device_page::error::{Error, Result};
 use std::alloc::{Allocator, Global};
 
-// The bytes behind a length of eight bytes, if they are as many.
+// The bytes after a length of eight bytes, if there are as many as the length says.
 fn counted_bytes(bytes: &[u8]) -> Option<&[u8]>
     ensures { MatchOption result (is_counted bytes.now ≡ false)
         (λ b. (is_counted bytes.now ≡ true) × (b.now ≡ drop 8 bytes.now)
@@ -105,14 +105,14 @@ impl<A: Allocator> Code<A> for String<A> {
     ghost coded = { λ s. text_coded (string_bytes s) };
 }
 
-/// Bytes are what their encoding reads as.
+/// Bytes read back from their encoding.
 #[tactic(auto, using(crate::proofs::CodeLemmas::bytes_read_back))]
 pub fn bytes_read_back()
     ensures { (v : _) → ⟦<Vec<u8> as Code<Global>>⟧.is_encodable v ≡ true
         → bytes_read (⟦<Vec<u8> as Code<Global>>⟧.encoding v) ≡ Some v.items }
 {}
 
-/// Each text is what its encoding reads as.
+/// Each text reads back from its encoding.
 #[tactic(auto, using(crate::proofs::CodeLemmas::text_read_back))]
 pub fn string_read_back()
     ensures { (s : _) → ⟦<String as Code<Global>>⟧.is_encodable s ≡ true

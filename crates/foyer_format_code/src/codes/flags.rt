@@ -43,7 +43,7 @@ impl<A: Allocator> Code<A> for bool {
     ghost coded = { λ _ _. refl };
 }
 
-/// Each flag is what its encoding reads as.
+/// Each flag reads back from its encoding.
 #[tactic(auto, using(crate::proofs::CodeLemmas::flag_read_back))]
 pub fn bool_read_back()
     ensures { (b : Bool) → flag_read (⟦<bool as Code<Global>>⟧.encoding b) ≡ Some b }

@@ -42,7 +42,7 @@ impl<A: Allocator> Code<A> for i8 {
     ghost coded = { int_coded w8 };
 }
 
-/// Each number of 8 bits with a sign is what its encoding reads as.
+/// Each `i8` reads back from its encoding.
 #[tactic(auto, using(crate::proofs::CodeLemmas::int_read_back_8))]
 pub fn i8_read_back()
     ensures { (z : ℤ) → FitsSigned w8 z
@@ -80,7 +80,7 @@ impl<A: Allocator> Code<A> for i16 {
     ghost coded = { int_coded w16 };
 }
 
-/// Each number of 16 bits with a sign is what its encoding reads as.
+/// Each `i16` reads back from its encoding.
 #[tactic(auto, using(crate::proofs::CodeLemmas::int_read_back_16))]
 pub fn i16_read_back()
     ensures { (z : ℤ) → FitsSigned w16 z
@@ -118,7 +118,7 @@ impl<A: Allocator> Code<A> for i32 {
     ghost coded = { int_coded w32 };
 }
 
-/// Each number of 32 bits with a sign is what its encoding reads as.
+/// Each `i32` reads back from its encoding.
 #[tactic(auto, using(crate::proofs::CodeLemmas::int_read_back_32))]
 pub fn i32_read_back()
     ensures { (z : ℤ) → FitsSigned w32 z
@@ -156,7 +156,7 @@ impl<A: Allocator> Code<A> for i64 {
     ghost coded = { int_coded w64 };
 }
 
-/// Each number of 64 bits with a sign is what its encoding reads as.
+/// Each `i64` reads back from its encoding.
 #[tactic(auto, using(crate::proofs::CodeLemmas::int_read_back_64))]
 pub fn i64_read_back()
     ensures { (z : ℤ) → FitsSigned w64 z
@@ -194,7 +194,7 @@ impl<A: Allocator> Code<A> for i128 {
     ghost coded = { int_coded w128 };
 }
 
-/// Each number of 128 bits with a sign is what its encoding reads as.
+/// Each `i128` reads back from its encoding.
 #[tactic(auto, using(crate::proofs::CodeLemmas::int_read_back_128))]
 pub fn i128_read_back()
     ensures { (z : ℤ) → FitsSigned w128 z
@@ -232,7 +232,7 @@ impl<A: Allocator> Code<A> for isize {
     ghost coded = { int_coded w64 };
 }
 
-/// Each number of an `isize` is what its encoding reads as.
+/// Each `isize` reads back from its encoding.
 #[tactic(auto, using(crate::proofs::CodeLemmas::int_read_back_64))]
 pub fn isize_read_back()
     ensures { (z : ℤ) → FitsSigned w64 z

@@ -41,7 +41,7 @@ impl<A: Allocator> Code<A> for u8 {
     ghost coded = { number_coded w8 };
 }
 
-/// Each number of 8 bits is what its encoding reads as.
+/// Each `u8` reads back from its encoding.
 #[tactic(auto, using(crate::proofs::CodeLemmas::number_read_back_8))]
 pub fn u8_read_back()
     ensures { (n : ℕ) → n < 2 ^ 8
@@ -79,7 +79,7 @@ impl<A: Allocator> Code<A> for u16 {
     ghost coded = { number_coded w16 };
 }
 
-/// Each number of 16 bits is what its encoding reads as.
+/// Each `u16` reads back from its encoding.
 #[tactic(auto, using(crate::proofs::CodeLemmas::number_read_back_16))]
 pub fn u16_read_back()
     ensures { (n : ℕ) → n < 2 ^ 16
@@ -117,7 +117,7 @@ impl<A: Allocator> Code<A> for u32 {
     ghost coded = { number_coded w32 };
 }
 
-/// Each number of 32 bits is what its encoding reads as.
+/// Each `u32` reads back from its encoding.
 #[tactic(auto, using(crate::proofs::CodeLemmas::number_read_back_32))]
 pub fn u32_read_back()
     ensures { (n : ℕ) → n < 2 ^ 32
@@ -155,7 +155,7 @@ impl<A: Allocator> Code<A> for u64 {
     ghost coded = { number_coded w64 };
 }
 
-/// Each number of 64 bits is what its encoding reads as.
+/// Each `u64` reads back from its encoding.
 #[tactic(auto, using(crate::proofs::CodeLemmas::number_read_back_64))]
 pub fn u64_read_back()
     ensures { (n : ℕ) → n < 2 ^ 64
@@ -193,7 +193,7 @@ impl<A: Allocator> Code<A> for u128 {
     ghost coded = { number_coded w128 };
 }
 
-/// Each number of 128 bits is what its encoding reads as.
+/// Each `u128` reads back from its encoding.
 #[tactic(auto, using(crate::proofs::CodeLemmas::number_read_back_128))]
 pub fn u128_read_back()
     ensures { (n : ℕ) → n < 2 ^ 128
@@ -231,7 +231,7 @@ impl<A: Allocator> Code<A> for usize {
     ghost coded = { number_coded w64 };
 }
 
-/// Each number of a `usize` is what its encoding reads as.
+/// Each `usize` reads back from its encoding.
 #[tactic(auto, using(crate::proofs::CodeLemmas::number_read_back_64))]
 pub fn usize_read_back()
     ensures { (n : ℕ) → n < 2 ^ 64

@@ -4,7 +4,7 @@ ghost use Rattle.foyer_format_layout.specs.Page.{page_up};
 
 pub use foyer_format_code::device_page::io::bytes::PAGE;
 
-/// The least whole number of pages that has so many bytes, in bytes.
+/// `len` bytes rounded up to whole pages. The result must fit a `usize`.
 #[tactic(auto, unfolding(foyer_format_layout::specs::Page::page_up))]
 pub fn whole_pages(len: usize) -> usize
     requires { page_up len < 2 ^ 64 }

@@ -101,9 +101,11 @@ impl EntryHeader {
     }
 }
 
-/// Gives the pair of a record of this hash and this sequence, or `None` if the bytes are no such
-/// record. Errors: Unsupported if the record is compressed, Parse if its value or its key isn't
-/// encoded right, Memory if an allocation was refused. Nothing else is refused.
+/// Gives the key and the value if the bytes are a record of this hash and this sequence, without
+/// padding. Gives `None` if they aren't exactly such a record, also if the checksum is wrong.
+/// Errors: Unsupported if the record is compressed, Parse if its value or its key isn't encoded
+/// right, Memory if an allocation, or a clone of the allocator, was refused. Nothing else is
+/// refused.
 #[tactic(auto, using(crate::proofs::RefusalLemmas::record_answers))]
 pub fn read_record<A: Allocator + Clone, K: Code<A> + Drop, V: Code<A> + Drop>(
     alloc: &A,
@@ -129,7 +131,7 @@ pub fn read_record<A: Allocator + Clone, K: Code<A> + Drop, V: Code<A> + Drop>(
     find_record(alloc, bytes, hash, sequence)
 }
 
-// The same, by the answer alone.
+// As `read_record`, with clauses that only lead from the answer to the outcome.
 #[tactic(auto, using(crate::proofs::RecordLemmas::outcomes))]
 fn find_record<A: Allocator + Clone, K: Code<A> + Drop, V: Code<A> + Drop>(
     alloc: &A,
@@ -156,7 +158,7 @@ fn find_record<A: Allocator + Clone, K: Code<A> + Drop, V: Code<A> + Drop>(
     read_body(alloc, &header, &bytes[HEADER_LEN..])
 }
 
-// The pair of the bytes behind this header.
+// The pair of the bytes after this header.
 #[tactic(auto, using(crate::proofs::RecordLemmas::bodies))]
 fn read_body<A: Allocator + Clone, K: Code<A> + Drop, V: Code<A> + Drop>(
     alloc: &A,

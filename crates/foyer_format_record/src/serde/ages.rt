@@ -1,16 +1,16 @@
-//! What an entry's properties say of it.
+//! An entry's properties, and the age that they say it has.
 ghost use Rattle.std.specs.Prelude.{◌≡◌, None, Option};
 ghost use Rattle.foyer_format_record.specs.declared.serde.ages.Age.{Age};
 ghost use Rattle.foyer_format_record.specs.declared.serde.ages.Age.TheVariants as age_of;
 
-/// How long an entry has been on its way through the cache.
+/// Whether an entry was read from the disk, and whether its block will soon be reclaimed.
 #[derive(Clone, Copy, Debug, PartialEq, Eq)]
 pub enum Age {
-    /// It was never on the disk.
+    /// It wasn't read from the disk.
     Fresh,
-    /// It came from the disk, and stands there in a block that stays.
+    /// It was read from a block of the disk that isn't about to be reclaimed.
     Young,
-    /// It came from the disk, from a block that will soon be reclaimed.
+    /// It was read from a block of the disk that will soon be reclaimed.
     Old,
 }
 

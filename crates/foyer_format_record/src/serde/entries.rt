@@ -29,7 +29,7 @@ pub struct EntrySerializer;
 impl EntrySerializer {
     /// Writes the value and then the key. Errors: Unsupported for another compression than `None`; else
     /// BufferSizeLimit if room is missing, Io if the writer failed, or a code's own error. After an `Err` some
-    /// of the bytes may have been written. Any other `Write` goes in by a `TrackedWriter`.
+    /// of the bytes may have been written. A `TrackedWriter` makes a `Sink` of any other `Write`.
     #[tactic(auto, using(foyer_format_code::proofs::WritingLemmas::two_writes))]
     pub fn serialize<A: Allocator, K: Code<A>, V: Code<A>, W: Sink>(
         key: &K,
@@ -107,10 +107,11 @@ fn check_entry(
 pub struct EntryDeserializer;
 
 impl EntryDeserializer {
-    /// Gives the key and the value of the bytes. The first of these faults is answered: OutOfRange if there
-    /// are fewer bytes than both lengths together, ChecksumMismatch if a checksum was given and isn't that of
-    /// the bytes, Unsupported for another compression than `None`, Parse if a code refuses the bytes. Memory
-    /// is answered if an allocation, or a clone of the allocator, was refused.
+    /// Gives the key and the value of bytes that begin with the value and then the key. The first of these
+    /// faults is answered: OutOfRange if there are fewer bytes than both lengths together, ChecksumMismatch if a
+    /// checksum was given and isn't that of the value and the key, Unsupported for another compression than
+    /// `None`, Parse if a code refuses its bytes. Memory is answered if an allocation, or a clone of the
+    /// allocator, was refused.
     #[tactic(auto, using(crate::proofs::RefusalLemmas::decode_fault, crate::proofs::OuterFault::outer_faults))]
     pub fn deserialize<A: Allocator + Clone, K: Code<A> + Drop, V: Code<A> + Drop>(
         alloc: &A,

@@ -28,8 +28,8 @@ pub use noop::{NoopIoEngine, NoopIoEngineConfig};
 pub use psync::{PsyncIoEngine, PsyncIoEngineConfig};
 pub use shared_memory::{SharedMemoryIoEngine, SharedMemoryIoEngineConfig};
 
-/// Reads and writes partitions. A refused call is OutOfRange if the range isn't there, and then nothing was touched. A
-/// refused call is Io if the device failed.
+/// Reads and writes partitions. Errors: OutOfRange, only if the range isn't there, and then the device's bytes are as
+/// before; Io if the device failed.
 pub trait IoEngine {
     // The bytes of the files, if the engine shows them. An engine over a system's files doesn't show them, and never
     // does.
@@ -38,7 +38,7 @@ pub trait IoEngine {
     // The faults of its reads and writes, up to 2^64 - 1.
     ghost faults: { Self → ℕ };
 
-    // So many bytes from an offset on of a partition of this place and size are surely there: such an access is never
+    // This many bytes, from an offset of a partition of this place and size on, are surely there: such an access is never
     // OutOfRange.
     ghost reaches: { Self → Extent → ℕ → ℕ → ℕ → Type 0 };
 
@@ -65,7 +65,7 @@ pub trait IoEngine {
         ensures refused { IfSome result (λ r. IfErr r.1
             (IsAccessFault (faults self.old) (faults self.new))) };
 
-    /// Writes the buffer over the bytes from an offset of the partition on. After Io any bytes may stand in that range.
+    /// Writes the buffer over the bytes from an offset of the partition on. After Io that range may have any bytes.
     fn write<B: IoBuf, P: Partition>(
         &mut self,
         buffer: B,

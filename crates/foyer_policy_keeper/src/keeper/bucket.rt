@@ -80,7 +80,7 @@ impl<K: Eq + Drop, V: Drop, P: Drop, A: Allocator> Bucket<K, V, P, A> {
         Ok(())
     }
 
-    // Puts a piece into the place of its key's, in room that was made.
+    // Puts a piece in place of the one with an equal key, or in room that was made.
     pub(crate) fn put(&mut self, piece: PieceRef<K, V, P, A>)
         requires { HasPlace K.eq self.old piece.piece.key }
         ensures { Enters K.eq self.old.pieces self.new.pieces piece }
@@ -103,7 +103,7 @@ impl<K: Eq + Drop, V: Drop, P: Drop, A: Allocator> Bucket<K, V, P, A> {
         first
     }
 
-    // Removes the key's piece, and says whether that leaves none: then the bucket is to go.
+    // Removes the key's piece, and says whether that leaves none. Then the bucket must be removed.
     pub(crate) fn remove(&mut self, key: &K) -> bool
         ensures { without K.eq self.old.pieces key.now ≡ (if result then [] else self.new.pieces) }
     {

@@ -15,7 +15,7 @@ use std::marker::Model;
 
 type Buckets<K, V, P, A> = HashMap<u64, Bucket<K, V, P, A>, BuildHasherDefault<FoldHasher>, A>;
 
-/// What shows that a shard had no piece under this hash and the key that it was asked for: only a look gives one.
+/// A proof that a shard had no piece under this hash and the key that was asked for. Only `Shard::get` and `Shard::lacks` make one.
 #[derive(Clone, Copy, Debug, PartialEq, Eq)]
 pub struct NotKept {
     hash: u64,
@@ -127,7 +127,7 @@ impl<K: Eq + Drop, V: Drop, P: Drop, A: Allocator + Clone> Shard<K, V, P, A> {
         })
     }
 
-    /// Makes room for the piece and draws the next number. The first result is a reference to the piece, the second is to be put. Errors:
+    /// Makes room for the piece and draws the next number. The first result is a reference to the piece, the second is for `put`. Errors:
     /// `SequenceEnd` if the numbers are used up; `Memory`. What is kept stays, and a refused call draws no number.
     pub fn reserve(
         &mut self,
@@ -153,7 +153,8 @@ impl<K: Eq + Drop, V: Drop, P: Drop, A: Allocator + Clone> Shard<K, V, P, A> {
         Ok((given, Reserved { piece: kept, alloc }))
     }
 
-    /// Puts a piece under its hash and its key, in place of what is there, in the room that was made for it. It takes no memory.
+    /// Puts a piece under its hash and its key, in place of what is there, in the room that was made for it. The room must still be there.
+    /// It takes no memory.
     pub fn put(&mut self, reserved: Reserved<K, V, P, A>)
         requires room { HasRoomFor K.eq self.old reserved.piece.hash reserved.piece.key }
         requires number { (0 < reserved.number) × (reserved.number ≤ self.old.last) }
@@ -189,7 +190,7 @@ impl<K: Eq + Drop, V: Drop, P: Drop, A: Allocator + Clone> Shard<K, V, P, A> {
         }
     }
 
-    /// Gives one more owner of the piece of a hash and a key, or what shows that there is none. Errors: `Memory` if the piece has 2^63 - 1
+    /// Gives one more owner of the piece of a hash and a key, or a proof that there is none. Errors: `Memory` if the piece has 2^63 - 1
     /// owners.
     pub fn get(&self, hash: u64, key: &K) -> Result<std::result::Result<Piece<K, V, P, A>, NotKept>>
         ensures value { IfOk result (IsFound K.eq self.now.map hash key.now) }
@@ -202,7 +203,7 @@ impl<K: Eq + Drop, V: Drop, P: Drop, A: Allocator + Clone> Shard<K, V, P, A> {
         }
     }
 
-    /// Gives what shows that there is no piece of the hash and the key, if there is none.
+    /// Gives a proof that there is no piece of the hash and the key, or `None` if there is one.
     pub fn lacks(&self, hash: u64, key: &K) -> Option<NotKept>
         ensures { IsLacked K.eq self.now.map hash key.now result }
     {

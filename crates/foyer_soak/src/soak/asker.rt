@@ -1,4 +1,4 @@
-//! What a thread asks, and how it judges the answers.
+//! The calls of a thread, and how it judges the answers.
 ghost use Rattle.std.specs.Prelude.{◌<◌};
 
 use super::{Found, NOTHING};
@@ -14,14 +14,14 @@ use std::sync::Wait;
 // How many keys each thread has.
 const KEYS: usize = 64;
 
-// The longest value in bytes, and the shortest.
+// A value has `SHORTEST` bytes, and fewer than `LONGEST` more.
 const LONGEST: u64 = 6000;
 
 const SHORTEST: u64 = 16;
 
 pub(super) type Values<N> = Store<N, u64, Vec<u8>, NoProperties, IdentityHashBuilder>;
 
-// How many calls a thread makes, what its choices are drawn from, and its first key.
+// How many calls a thread makes, the seed of its choices, and its first key.
 #[derive(Clone, Copy)]
 pub(super) struct Plan {
     pub(super) calls: u64,
@@ -29,8 +29,8 @@ pub(super) struct Plan {
     pub(super) first: u64,
 }
 
-// What a thread knows of a key: the count of its last value, and whether it is surely that one, or was deleted since. Of a key that
-// this run hasn't put yet a value of an earlier run may be found.
+// What a thread knows about a key: the count of its last put, whether this run put or deleted the key, and whether the key was deleted
+// since its last put. If this run did neither, a value of an earlier run may be found.
 #[derive(Clone, Copy)]
 struct Last {
     count: u64,
@@ -74,7 +74,7 @@ fn count_of(key: u64, value: &[u8]) -> Option<u64> {
     if is_whole { Some(count) } else { None }
 }
 
-// Whether an entry may be answered that was read.
+// Whether a value that was read from the device can be right.
 fn may_be_read(key: u64, value: &[u8], last: Last) -> bool {
     match count_of(key, value) {
         Some(count) => !last.is_known || (count == last.count && !last.is_deleted),
@@ -82,7 +82,7 @@ fn may_be_read(key: u64, value: &[u8], last: Last) -> bool {
     }
 }
 
-// Whether a piece may be answered that isn't written yet: of a deleted key also an older one.
+// Whether a value that isn't written yet can be right. After a delete, an older value of the key can, too.
 fn may_be_kept(key: u64, value: &[u8], last: Last) -> bool {
     match count_of(key, value) {
         Some(count) => last.is_known && (count == last.count || last.is_deleted),
@@ -90,7 +90,7 @@ fn may_be_kept(key: u64, value: &[u8], last: Last) -> bool {
     }
 }
 
-// A thread's table, and what it found.
+// What a thread knows about each of its keys, and what it found.
 #[derive(Drop)]
 pub(super) struct Asker {
     table: [Last; KEYS],
@@ -192,7 +192,7 @@ impl Asker {
         }
     }
 
-    // Makes the calls: of 64 some 20 puts, three deletes, and one wait in a thousand.
+    // Makes the calls: about 20 of 64 are puts, three are deletes, one in a thousand is a wait, and the others are gets.
     pub(super) fn ask<S: Drop, N: Engine<S, u64, Vec<u8>, NoProperties>>(
         &mut self,
         rt: &impl Wait,

@@ -130,8 +130,8 @@ impl<D: Device, S: PickerSource, C: StorageFilterCondition, G: Gate> BlockEngine
         self.with_sizes(sizes)
     }
 
-    /// How often a put that finds more queued than the threshold looks again, and lets other threads go on between, before it isn't taken and
-    /// deletes its key. It holds no lock meanwhile. Default: `DEFAULT_ENQUEUE_PATIENCE`, none.
+    /// How often at most a put that finds more queued than the threshold looks again, before it isn't taken and its key is deleted.
+    /// Between two looks it yields to other threads, and holds no lock. Default: `DEFAULT_ENQUEUE_PATIENCE`, 0.
     pub fn with_enqueue_patience(self, enqueue_patience: u32) -> BlockEngineConfig<D, S, C, G>
         ensures { result ≡ record self { sizes = record self.sizes { enqueue_patience = enqueue_patience } } }
     {
@@ -189,8 +189,9 @@ impl<D: Device, S: PickerSource, C: StorageFilterCondition, G: Gate> BlockEngine
         self.with_sizes(sizes)
     }
 
-    /// The clean blocks below which a reclaim may begin. Default: `DEFAULT_CLEAN_BLOCK_THRESHOLD`. Above 1 it is `Config` at `build` unless there
-    /// are more blocks: with as many clean blocks as there are nothing would be kept.
+    /// A reclaim may begin if fewer blocks than this are clean, and also if a flusher waits for one. Default:
+    /// `DEFAULT_CLEAN_BLOCK_THRESHOLD`. If it is above 1 and the device doesn't have more blocks than it, `build` gives `Config`, since
+    /// reclaims would leave no block alone.
     pub fn with_clean_block_threshold(
         self,
         clean_block_threshold: usize,
@@ -215,8 +216,7 @@ impl<D: Device, S: PickerSource, C: StorageFilterCondition, G: Gate> BlockEngine
         self.with_sizes(sizes)
     }
 
-    /// The pickers, in the order in which they are asked. Default: by invalid bytes from 8/10 of a block on, then by age with a
-    /// tenth of the blocks clean or on probation.
+    /// The pickers, in the order in which they are asked. Default: those of `DefaultPickers`.
     pub fn with_eviction_pickers<E: EvictionPicker>(
         self,
         pickers: Vec<E>,

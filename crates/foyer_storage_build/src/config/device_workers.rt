@@ -46,7 +46,7 @@ type WorkingReclaimer<L, K, V, P, E, C, N, Q, G, T> = ReclaimerWorker<
     T,
 >;
 
-/// A flusher's worker over them. It is a type of its own, so that the proof of who passes it on doesn't go over its parts.
+/// A flusher's worker over a device's blocks. It is a type of its own, so that proofs about those who pass it on needn't look inside.
 pub struct BlockFlusher<L, K, V, P, E, C, N, Q, G>
 where
     L: Kinds,
@@ -98,7 +98,7 @@ where
     }
 }
 
-/// A reclaimer's worker over them, a type of its own for the same reason.
+/// A reclaimer's worker over a device's blocks, a type of its own for the same reason as `BlockFlusher`.
 pub struct BlockReclaimer<L, K, V, P, E, C, N, Q, G, T>
 where
     L: Kinds,

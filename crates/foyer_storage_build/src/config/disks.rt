@@ -61,7 +61,7 @@ impl<R, I: IoEngineConfig<R>, Q: Partition + Copy> Disks<'_, R, I, Q> {
             .build(self.rt, &IoEngineBuildContext { files: self.paths })
     }
 
-    // A disk whose accesses this one's parts record.
+    // A disk whose accesses are recorded with one of the recorder's parts.
     fn disk(
         &self,
         alloc: Global,
@@ -164,7 +164,8 @@ impl<R, I: IoEngineConfig<R>, Q: Partition + Copy> Disks<'_, R, I, Q> {
         recoverers
     }
 
-    // The log in its partition, whose accesses one of this one's parts records, and the marks that it has.
+    // The log in its partition, if there is one. Its accesses are recorded with one of the recorder's parts. Appends the log's marks to
+    // `marks`.
     fn log(
         &self,
         alloc: Global,
@@ -329,8 +330,8 @@ impl<R, I: IoEngineConfig<R>, Q: Partition + Copy> Disks<'_, R, I, Q> {
         Ok(workers)
     }
 
-    // Opens the core and the engine over it: the log's marks are read first, then the blocks of which there is no listing, each of
-    // which passes the gate.
+    // Opens the core and the engine over it. It reads the log's marks first, then the blocks of which there is no listing. It passes the
+    // gate before it reads such a block.
     pub(super) fn open<L, K, V, P, E, C, G>(
         &self,
         alloc: Global,

@@ -105,8 +105,8 @@ fn recoverers_of(sizes: &EngineSizes, blocks: u32) -> u32
     }
 }
 
-// Whether reclaims leave most blocks alone. If as many blocks are to be clean as there are, each block is reclaimed as soon as it is full, and
-// nothing is kept; one clean block is asked of any number, since a store of one block is a store too.
+// Whether reclaims leave some block alone. If the threshold is the number of blocks or more, each block is reclaimed as soon as it is
+// full, and nothing is kept. A threshold of at most 1 is accepted for any number of blocks, since a store of one block is a store too.
 fn leaves_blocks(settings: &Settings) -> bool
     ensures { result ≡ (nat_le settings.now.clean_block_threshold 1 || nat_lt settings.now.clean_block_threshold settings.now.blocks) }
 {
@@ -130,8 +130,8 @@ fn settings_of(planned: Settings, blocks: usize) -> Result<Settings>
     Ok(settings)
 }
 
-// Each worker has a seat at the counters, a reclaimer two, each I/O engine for loads one, the log of deletes one, and all callers one. How
-// many I/O engines for loads there are.
+// Checks that there are seats at the counters for all. Each worker has one, but a reclaimer has two. Each I/O engine for loads, the log
+// of deletes, and all callers together have one. Gives how many I/O engines for loads there are.
 fn check_seats(settings: &Settings, recoverers: u32, load_engines: usize) -> Result<u32>
     ensures loads { IfOk result (λ loads. loads ≡ load_engines) }
     ensures seats { IfOk result (λ loads. settings.now.flushers + 2 * settings.now.reclaimers + recoverers + loads + 2 < 2 ^ 32) }

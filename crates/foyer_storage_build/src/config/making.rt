@@ -33,7 +33,7 @@ use std::rt::Files;
 use std::sync::{Arc, Wait};
 use std::thread::Threads;
 
-// What a core is lent.
+// Makes the `Env` of a core.
 fn env_of<E: EvictionPicker, C: StorageFilterCondition>(
     alloc: Global,
     pickers: Vec<E>,
@@ -47,8 +47,8 @@ fn env_of<E: EvictionPicker, C: StorageFilterCondition>(
     env
 }
 
-/// An opening over the blocks of a device that was divided and has its counters. It is a type of its own, so that the proof of
-/// who passes it on doesn't go over its parts.
+/// An opening over the blocks of a device that was divided and has its counters. It is a type of its own, so that proofs about those who
+/// pass it on needn't look inside.
 #[derive(Drop)]
 pub struct BlockOpening<I, T, E, C, N, Q, G>
 where
@@ -150,7 +150,7 @@ where
     })
 }
 
-// Makes the engine and its workers, of an opening and of what the workers of its recovery listed.
+// Makes the engine and its workers from an opening that has what the recovery's workers listed.
 fn finish<R, I, T, L, K, V, P, E, C, Q, G>(
     rt: &R,
     alloc: Global,

@@ -20,13 +20,14 @@ pub trait PickerSource: Drop {
     // Which pickers it gives, in their order.
     ghost gives: { Self → List Self.Picker → Type 0 };
 
-    /// The pickers, in the order in which they are asked. Memory.
+    /// Gives the pickers, in the order in which they are asked. Errors: `Memory`.
     fn into_pickers(self, alloc: Global) -> Result<Vec<Self::Picker>>
         ensures given { IfOk result (λ pickers. gives self pickers.items) }
         ensures refused { IsOkUnless result Memory };
 }
 
-/// By invalid bytes from 8/10 of a block on, then by age with a tenth of the blocks clean or on probation.
+/// First an `InvalidRatioPicker` of 8/10, which picks the block with the most invalid bytes if they are 8/10 of a block or more. Then a
+/// `FifoPicker` of 1/10, which picks the block that became evictable longest ago.
 #[derive(Clone, Copy, Debug, Default, PartialEq, Eq)]
 pub struct DefaultPickers;
 
@@ -44,7 +45,7 @@ impl PickerSource for DefaultPickers {
     }
 }
 
-/// Pickers that were handed in.
+/// Pickers that the caller gives.
 #[derive(Drop)]
 pub struct GivenPickers<E: EvictionPicker>(pub Vec<E>);
 

@@ -12,10 +12,10 @@ use foyer_storage_workers::recover::{DiskRecoverer, Recoverer};
 use std::alloc::Global;
 use std::sync::Arc;
 
-/// The blocks of a device while they are recovered: whoever reads one passes the gate first.
+/// The blocks of a device while they are recovered. A read at the start of a block passes the gate first.
 pub type RecoveredBlocks<N, Q, G> = GatedDisk<DeviceBlocks<N, Q>, Arc<G, Global>>;
 
-/// A worker of a recovery over them. It is a type of its own, so that the proof of who passes it on doesn't go over its parts.
+/// A worker of a recovery over a device's blocks. It is a type of its own, so that proofs about those who pass it on needn't look inside.
 #[derive(Drop)]
 pub struct BlockRecoverer<N, Q, G>
 where
@@ -27,7 +27,7 @@ where
     pub(super) alloc: Global,
 }
 
-/// What one listed.
+/// What a worker of a recovery listed.
 #[derive(Drop)]
 pub struct BlockListings<N, Q, G>
 where

@@ -1,15 +1,17 @@
 //! What an engine's threads did, counted without a lock.
 use std::sync::atomic::{AtomicU64, Ordering};
 
-/// What an engine's threads did since it was opened. No clause says what these numbers are; each stays below the truth by what is
-/// being done just now.
+/// What an engine's threads did since it was opened. No clause says what these numbers are. Each may lack what is being done at the
+/// moment.
 #[derive(Clone, Copy, Debug, Default, PartialEq, Eq)]
 pub struct WorkCounts {
     /// Batches that flushers began.
     pub batches: u64,
-    /// Blocks of which a write failed: nothing of their batch that came after is kept.
+    /// Blocks of which a write failed, or whose records the index got no memory for. The batch's records in such a block and in its later
+    /// blocks aren't kept.
     pub failed_blocks: u64,
-    /// Puts that were queued and then didn't fit: into what was left of the flusher's buffer, or into a block. Their keys are deleted.
+    /// Puts that were queued and then returned. They didn't fit into what was left of the flusher's buffer or into a block, or couldn't be
+    /// encoded. Their keys are deleted.
     pub returned_puts: u64,
     /// Reclaims that began.
     pub reclaims: u64,
@@ -17,7 +19,7 @@ pub struct WorkCounts {
     pub reinsertions: u64,
 }
 
-/// The same, while it is counted.
+/// The counters of which a `WorkCounts` is a reading. Threads share them by reference.
 pub struct WorkCounters {
     batches: AtomicU64,
     failed_blocks: AtomicU64,
@@ -40,7 +42,7 @@ impl Drop for WorkCounters {
 }
 
 impl WorkCounters {
-    /// Nothing was done.
+    /// Makes counters of 0.
     pub fn new() -> WorkCounters {
         WorkCounters {
             batches: AtomicU64::new(0),
@@ -56,12 +58,12 @@ impl WorkCounters {
         let _ = self.batches.fetch_add(1, Ordering::Relaxed);
     }
 
-    /// A block's write failed.
+    /// Counts a block of which a write failed, or whose records the index got no memory for.
     pub fn add_failed_block(&self) {
         let _ = self.failed_blocks.fetch_add(1, Ordering::Relaxed);
     }
 
-    /// A put didn't fit.
+    /// Counts a put that was queued and then returned.
     pub fn add_returned_put(&self) {
         let _ = self.returned_puts.fetch_add(1, Ordering::Relaxed);
     }
@@ -71,14 +73,14 @@ impl WorkCounters {
         let _ = self.reclaims.fetch_add(1, Ordering::Relaxed);
     }
 
-    /// So many records were admitted.
+    /// Counts this many records that the reinsertion filter admitted.
     pub fn add_reinsertions(&self, count: u64) {
         if count > 0 {
             let _ = self.reinsertions.fetch_add(count, Ordering::Relaxed);
         }
     }
 
-    /// The numbers, each as it is when it is looked at.
+    /// Gives the numbers. They are read one after another, so together they may be of no one moment.
     pub fn shown(&self) -> WorkCounts {
         WorkCounts {
             batches: self.batches.load(Ordering::Relaxed),

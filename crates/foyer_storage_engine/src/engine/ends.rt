@@ -66,8 +66,8 @@ where
     G: Gate,
     N: Noting,
 {
-    /// One step, at which a filter that is asked is shown `io`, made again while memory is refused for it. The session's newest
-    /// brief is then that of this step and of this very reply.
+    /// Makes one step, and makes it again while memory is refused for it. A filter that is asked is passed `io`. The session's newest brief
+    /// is then that of this step and of this very reply.
     #[tactic(auto, using(crate::proofs::HoldingLemmas::counts_made, crate::proofs::HoldingLemmas::held_by_refusal, crate::proofs::HoldingLemmas::held_but_same))]
     pub fn step_again(
         &self,
@@ -124,7 +124,7 @@ where
         Ok(begun)
     }
 
-    // Waits until no reclaim runs, once flushers have answered; or until the bell is closed, as what it gives shows.
+    // Waits, after flushers have answered, until no reclaim runs. If the bell is closed before that, it gives what shows this.
     #[tactic(auto, using(crate::proofs::HoldingLemmas::held_by_made, crate::proofs::HoldingLemmas::held_on, crate::proofs::HoldingLemmas::made_answer, crate::proofs::HoldingLemmas::made_still))]
     fn wait_for_reclaims(
         &self,
@@ -159,9 +159,9 @@ where
         unreachable!()
     }
 
-    /// Waits until all that was queued before is written, and then until no reclaim runs. Its last step asks whether no reclaim runs. Errors:
-    /// `Memory` if a step is refused memory; `SequenceEnd` if no step is left. After an error, what the earlier steps did stays. The clause
-    /// also leaves `Closed` open, which no core answers to a wait.
+    /// Waits until all that was queued before is written or given up, and then until no reclaim runs. Its last step asks whether no
+    /// reclaim runs. After `Signals::close` it waits for nothing. Errors: `Memory` if memory is refused; `SequenceEnd` if no step is
+    /// left. After an error, what the earlier steps did stays. The clause also allows `Closed`, which no core answers to a wait.
     #[tactic(auto, using(crate::proofs::HoldingLemmas::held_on))]
     pub fn wait(&self, rt: &impl Wait, session: &mut Session<L>) -> Result<()>
         requires { 0 < session.old.shares.parts }
@@ -177,7 +177,8 @@ where
         Ok(())
     }
 
-    /// Takes no more enqueues, deletes and destroys, and waits as `wait` does.
+    /// Takes no more enqueues, deletes and destroys, and waits as `wait` does. Errors: those of `wait`. If only the wait failed, the
+    /// engine is closed.
     #[tactic(auto, using(crate::proofs::HoldingLemmas::closed_by_made, crate::proofs::HoldingLemmas::closes_on))]
     pub fn close(&self, rt: &impl Wait, session: &mut Session<L>) -> Result<()>
         requires { 0 < session.old.shares.parts }
@@ -284,9 +285,10 @@ where
         }
     }
 
-    /// Destroys all entries: it waits as `wait` does, clears the index, and cleans each block, the last one last. Once it has begun, it tries
-    /// again what is refused memory. Errors: `Closed` if the engine is closed; `SequenceEnd` if no step is left; `Memory` if it is refused
-    /// memory before it has begun. `Io`, or another kind, is the error of the first clean that failed. The other cleans were done.
+    /// Destroys all entries: it waits as `wait` does, clears the index, and cleans each block, in order. Once it has begun, it repeats
+    /// each step that is refused memory. Errors: `Closed` if the engine is closed, or if it would have to wait after `Signals::close`;
+    /// `SequenceEnd` if no step or no sequence is left; `Memory` if memory is refused before it has begun. `Io` or `Memory` is also the
+    /// error of the first clean that failed. Then the index is clear, and a clean of every block was tried.
     #[tactic(auto, using(crate::proofs::HoldingLemmas::destroys_on, crate::proofs::HoldingLemmas::destroys_beside))]
     pub fn destroy(&self, rt: &impl Wait, session: &mut Session<L>) -> Result<()>
         requires { 0 < session.old.shares.parts }

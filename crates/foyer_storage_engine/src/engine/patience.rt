@@ -27,7 +27,7 @@ where
     G: Gate,
     N: Noting,
 {
-    /// The same, in which a put that finds the queue full looks again so often at most, before it isn't taken. Default: never.
+    /// Sets how often at most a put that finds the queue full looks again, before it isn't taken and its key is deleted. Default: 0.
     pub fn with_enqueue_patience(self, looks: u32) -> BlockEngine<L, K, V, P, A, E, C, D, G, N>
         ensures { result ≡ record self { patience = looks } }
     {
@@ -36,8 +36,8 @@ where
         engine
     }
 
-    // Looks again while the queue is full, as often as the engine's patience has it, and lets other threads go on between. No lock is
-    // held between two looks, so that flushers go on; if they are held, the looks end.
+    // Looks while the queue is full, `patience` times at most, and yields to other threads after each look. No lock is held between two
+    // looks, so flushers can work. If they don't, the looks end nevertheless.
     pub(super) fn look_for_room(&self, rt: &impl Wait) {
         for _ in 0..self.patience {
             if !lock_spinning(self.shared.locked(), rt).core().is_full() {

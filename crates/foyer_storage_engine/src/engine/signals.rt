@@ -1,4 +1,4 @@
-//! What the workers of an engine and its callers tell one another.
+//! The bells and waits by which an engine's workers and callers wait for one another.
 use super::counts::WorkCounters;
 use super::waits::Waits;
 use crate::bell::Bell;
@@ -11,11 +11,11 @@ pub struct Signals<A: Allocator> {
     pub queued: Bell,
     /// The bell that is rung when a reclaim may begin.
     pub reclaims: Bell,
-    /// The bell that is rung when a batch, a reclaim or a destroy ended. Then a block may be clean, or nothing is under way.
+    /// The bell that is rung when a batch, a reclaim or a destroy ended. Then a block may have become clean, or the engine idle.
     pub done: Bell,
-    /// The waits that flushers have yet to answer.
+    /// The waits that flushers haven't answered yet.
     pub waits: Waits<A>,
-    /// What its threads did.
+    /// The counters of what its threads do.
     pub work: WorkCounters,
 }
 
@@ -33,7 +33,7 @@ impl<A: Allocator> Drop for Signals<A> {
 }
 
 impl<A: Allocator> Signals<A> {
-    /// Bells that nobody rang, no wait, and nothing done.
+    /// Makes bells that nobody rang, no waits, and counters of 0.
     pub fn new(alloc: A) -> Signals<A> {
         Signals {
             queued: Bell::new(),
@@ -44,7 +44,7 @@ impl<A: Allocator> Signals<A> {
         }
     }
 
-    /// Once no worker runs: who waits goes on, and who begins to wait doesn't.
+    /// Ends every wait at `done` and in `waits`, and every later one at once. It is called once no worker runs.
     pub fn close(&self, rt: &impl Wait) {
         self.waits.close(rt);
         self.done.close(rt);

@@ -1,4 +1,4 @@
-//! The waits that aren't answered, as they stand behind their lock, and what shows how one went on.
+//! The waits that aren't answered, as their lock guards them, and values that show that a wait was begun, answered or ended.
 ghost use Rattle.std.specs.Prelude.{◌≡◌, ◌+◌, ◌%◌, ◌^◌, ◌++◌, ◌∷◌, [], ◌↔◌, true, false, not, IfOk, IfSome, IsOkUnless, IsSome, IsTrue, OnErr};
 ghost use Rattle.foyer_device_page.specs.declared.error.Error.TheVariants.{Memory};
 ghost use Rattle.foyer_storage_engine.specs.Waiting.{is_over, place_of, IsAnsweredAt, IsForgottenAt};
@@ -7,14 +7,14 @@ use foyer_device_page::error::Result;
 use std::alloc::Allocator;
 use std::mem;
 
-// A wait that flushers have yet to answer, and how many of them.
+// A wait, and how many flushers haven't answered it yet.
 #[derive(Clone, Copy, Debug, PartialEq, Eq)]
 struct OpenWait {
     id: u64,
     left: u32,
 }
 
-/// A wait that was begun: its number, and how many flushers are to answer it.
+/// A wait that was begun: its number, and how many flushers must answer it.
 #[derive(Clone, Copy, Debug, PartialEq, Eq)]
 pub struct BegunWait {
     id: u64,
@@ -30,20 +30,20 @@ impl BegunWait {
     }
 }
 
-/// What shows that all have answered a wait, or that nobody answers any more: only who waited for it has one.
+/// Shows that all flushers have answered a wait, that it was given up, or that nobody answers any more. Only the end of a wait gives one.
 #[derive(Clone, Copy, Debug, PartialEq, Eq)]
 pub struct AnsweredWait {
     id: u64,
 }
 
-/// What shows that a flusher answered a wait: only who counts the answer has one.
+/// Shows that a flusher answered a wait. Only `Waits::answer` gives one.
 #[derive(Drop)]
 pub struct GivenAnswer {
     id: u64,
 }
 
-// What stands behind the lock: the waits that aren't answered, whether none is answered any more, and whether a caller has begun
-// to wait since the last time that all were woken.
+// What the lock guards: the number of the next wait, the waits that aren't answered, and two flags. One says whether no wait is answered
+// any more, the other whether a caller has begun to wait since a wait last ended.
 #[derive(Drop)]
 pub(crate) struct WaitTable<A: Allocator> {
     next: u64,
@@ -71,7 +71,7 @@ impl<A: Allocator> WaitTable<A> {
         }
     }
 
-    // A new wait, that so many flushers are to answer. Memory.
+    // Begins a wait that this many flushers must answer. Errors: `Memory`.
     pub(crate) fn begin(&mut self, flushers: u32) -> Result<BegunWait>
         ensures refused { IsOkUnless result Memory }
         ensures next { IfOk result (λ _. self.new.next ≡ (self.old.next + 1) % 2 ^ 64) }
@@ -85,8 +85,8 @@ impl<A: Allocator> WaitTable<A> {
         Ok(BegunWait { id, flushers })
     }
 
-    // One flusher answers a wait: whether callers are to be woken. A wait that isn't there, since its caller gave it up, is left
-    // alone.
+    // One flusher answers a wait. Gives whether callers must be woken. Nothing changes if the wait isn't there, since its caller gave it
+    // up.
     fn count_answer(&mut self, id: u64) -> bool
         ensures { IsAnsweredAt (place_of self.old.waiting.items id) self.old self.new result }
     {
@@ -102,7 +102,7 @@ impl<A: Allocator> WaitTable<A> {
         mem::replace(&mut self.is_awaited, false)
     }
 
-    // The same, and what shows it.
+    // Counts an answer, and gives what shows it beside whether callers must be woken.
     pub(crate) fn answer(&mut self, id: u64) -> (bool, GivenAnswer)
         ensures counted { IsAnsweredAt (place_of self.old.waiting.items id) self.old self.new result.0 }
         ensures own { result.1.id ≡ id }
@@ -144,7 +144,7 @@ impl<A: Allocator> WaitTable<A> {
         Some(AnsweredWait { id })
     }
 
-    // The same of one that is known to be over.
+    // Gives what shows that a wait is over. The wait must be over.
     pub(crate) fn over(&self, id: u64) -> AnsweredWait
         requires { IsTrue (is_over self.now id) }
         ensures { result.id ≡ id }
@@ -152,7 +152,7 @@ impl<A: Allocator> WaitTable<A> {
         AnsweredWait { id }
     }
 
-    // Says whether to wait on. Whoever waits on is to be woken when a wait ends.
+    // Whether to go on waiting. If so, the caller must be woken when a wait ends.
     pub(crate) fn begins_to_wait(&mut self, id: u64) -> bool
         ensures waits { result ≡ not (is_over self.old id) }
         ensures awaited { result ≡ true → self.new ≡ record self.old { is_awaited = true } }

@@ -28,7 +28,7 @@ impl<A: Allocator> Drop for Waits<A> {
 }
 
 impl<A: Allocator> Waits<A> {
-    /// None.
+    /// Makes an empty set of waits.
     pub fn new(alloc: A) -> Waits<A> {
         Waits {
             table: Mutex::new(WaitTable::new(alloc)),
@@ -36,7 +36,7 @@ impl<A: Allocator> Waits<A> {
         }
     }
 
-    /// A new wait, that so many flushers are to answer. Memory.
+    /// Begins a wait that this many flushers must answer. Errors: `Memory`.
     pub fn begin(&self, rt: &impl Wait, flushers: u32) -> Result<BegunWait>
         ensures refused { IsOkUnless result Memory }
         ensures flushers { IfOk result (λ wait. wait.flushers ≡ flushers) }
@@ -55,12 +55,12 @@ impl<A: Allocator> Waits<A> {
         given
     }
 
-    /// Gives a wait up: who answers it later answers nothing.
+    /// Gives a wait up. Later answers to it change nothing.
     pub fn forget(&self, rt: &impl Wait, id: u64) {
         lock_spinning(&self.table, rt).forget(id);
     }
 
-    /// Says that nobody answers any more, and lets all go on who wait.
+    /// Says that nobody answers any more. This ends every wait, and every later one at once.
     pub fn close(&self, rt: &impl Wait) {
         lock_spinning(&self.table, rt).close();
         self.answered.notify_all();
@@ -76,8 +76,8 @@ impl<A: Allocator> Waits<A> {
         }
     }
 
-    /// Waits until all flushers have answered a wait, or nobody answers any more. Before it sleeps it looks for some microseconds, in
-    /// which no answer has to wake it.
+    /// Waits until all flushers have answered a wait, or nobody answers any more. If the wait was given up before, it returns at once.
+    /// Before the thread sleeps, it polls for some microseconds, in which no answer has to wake it.
     pub fn wait_for(&self, rt: &impl Wait, begun: BegunWait) -> AnsweredWait
         ensures { result.id ≡ begun.id }
     {

@@ -40,7 +40,7 @@ where
         self.hasher.hash_one(key)
     }
 
-    /// A piece of a key, with its hash. `Memory` alone; key, value and properties are dropped then.
+    /// Makes a piece of a key, with the key's hash. Errors: `Memory` alone. Key, value and properties are dropped then.
     pub fn piece(&self, key: K, value: V, properties: P) -> Result<Piece<K, V, P, A>>
         ensures ok { IfOk result (λ piece. piece ≡ record_of key value (H.hash_of self.now.hasher key) properties) }
         ensures refused { IfErr result (λ e. e ≡ Memory) }
@@ -49,8 +49,8 @@ where
         Piece::new(self.alloc.clone()?, key, value, hash, properties)
     }
 
-    /// Queues a piece, whose hash is the one of its key (`LocalEngine::piece`): under another hash no load of its key finds it.
-    /// A piece that isn't taken is dropped. `Closed`, `Memory` and `SequenceEnd` leave the engine as it was.
+    /// Queues a piece. Its hash should be the one of its key (`LocalEngine::piece`): under another hash no load of the key finds it. A
+    /// piece that isn't taken is dropped. Errors: `Closed`, `Memory` and `SequenceEnd`, which leave the engine as it was.
     pub fn enqueue(&mut self, piece: Piece<K, V, P, A>) -> Result<Enqueued>
         ensures waits { self.new.next_wait ≡ self.old.next_wait }
         ensures lent { (self.new.env.reinsertion ≡ self.old.env.reinsertion) × (self.new.env.io ≡ self.old.env.io) }
@@ -73,8 +73,8 @@ where
         answer_enqueue(step(&mut self.core, &mut self.env, Step::Enqueue { piece, size }))
     }
 
-    /// Queues a value under a key, with its properties: a piece of them. One that isn't taken is dropped. `Closed`, `Memory` and
-    /// `SequenceEnd` leave the engine as it was.
+    /// Queues a value under a key, with its properties. If they aren't taken, they are dropped. Errors: `Closed`, `Memory` and
+    /// `SequenceEnd`, which leave the engine as it was.
     pub fn put(&mut self, key: K, value: V, properties: P) -> Result<Enqueued>
         ensures waits { self.new.next_wait ≡ self.old.next_wait }
         ensures lent { (self.new.env.reinsertion ≡ self.old.env.reinsertion) × (self.new.env.io ≡ self.old.env.io) }
@@ -97,12 +97,12 @@ where
         }
     }
 
-    /// Gives what a key has: the newest that was put, whatever was asked before. If the newest event of its hash is a put of the key, the
-    /// call answers that put, or `Io` for a failed read, or `Memory`. This doesn't hold if a reclaim of its block or a destroy began since,
-    /// or if under two of 2^64 - 1 steps are left. If the newest event is a put of another key of the same hash, the answer is a miss. A
-    /// record that an opening found may be none. Then the answer is a miss, or `Parse` if its key or value doesn't decode, or `Unsupported`.
-    /// `Io` is answered only if the index has an address of the hash, and the read at that address may have failed. `SequenceEnd` is answered
-    /// if no step is left.
+    /// Gives the newest value of a key that is written. What is queued isn't answered before a wait, a close or a destroy has written it.
+    /// If the newest written event of the hash is a put of the key, the call answers that put, `Io` for a failed read, or `Memory`. The
+    /// exceptions: a reclaim of its block began since, a destroy cleared the index, or fewer than two of 2^64 - 1 steps are left. If the
+    /// newest event is a put of another key of the same hash, the answer is a miss. A record that an opening found may be damaged. Then the
+    /// answer is a miss, or `Parse` if its key or value doesn't decode, or `Unsupported`. `Io` is answered only if the index has an address
+    /// of the hash, and the read at that address may have failed. `SequenceEnd` is answered if no step is left.
     pub fn get(&mut self, key: &K) -> Result<Load<K, V>>
         ensures waits { self.new.next_wait ≡ self.old.next_wait }
         ensures lent { (self.new.env.reinsertion ≡ self.old.env.reinsertion) × (self.new.env.io ≡ self.old.env.io) }
@@ -136,8 +136,8 @@ where
         self.load(key, false)
     }
 
-    /// Gives what a key has, as a get answers it. The caller says whether the device is throttled. If it is, a key whose hash has an entry is
-    /// answered `Throttled`, and nothing is read. The call is refused for what a get is refused.
+    /// Loads a key as `get` does. The caller says whether the device is throttled. If it is, a key whose hash has an entry is answered
+    /// `Throttled`, and nothing is read. Errors: those of `get`.
     pub fn load(&mut self, key: &K, throttled: bool) -> Result<Load<K, V>>
         ensures waits { self.new.next_wait ≡ self.old.next_wait }
         ensures lent { (self.new.env.reinsertion ≡ self.old.env.reinsertion) × (self.new.env.io ≡ self.old.env.io) }
@@ -242,7 +242,7 @@ where
         answer_delete(step(&mut self.core, &mut self.env, Step::Delete { hash }))
     }
 
-    /// Whether a key's hash has an entry that was written: one of the key, or of another key. `SequenceEnd` alone.
+    /// Whether a key's hash has an entry that was written: one of the key, or of another key. Errors: `SequenceEnd` alone.
     pub fn may_contains(&mut self, key: &K) -> Result<bool>
         ensures waits { self.new.next_wait ≡ self.old.next_wait }
         ensures lent { (self.new.env.reinsertion ≡ self.old.env.reinsertion) × (self.new.env.io ≡ self.old.env.io) }

@@ -64,10 +64,10 @@ where
     C: StorageFilterCondition,
 {
     /// Destroys all entries: it flushes as a wait does, clears the index, and cleans each block, so that an opening finds nothing of them
-    /// again. If a destroy has begun and isn't over, the call goes on with that one. Errors: `Closed` after a close; `SequenceEnd` and
-    /// `Memory` before it has begun. Once it has begun, it tries again what is refused memory. `Io`, `NoSpace` and `SequenceEnd` come as of a
-    /// wait. If a clean failed, the answer is the disk's own error of the first clean that failed. The others were done after it. The
-    /// accesses of a destroy fail for what a wait's do.
+    /// again. If a destroy has begun and isn't over, the call continues it. Errors: `Closed` after a close; `SequenceEnd` and `Memory` if
+    /// the destroy can't begin. Once it has begun, the call tries again what is refused memory. `Io`, `NoSpace` and `SequenceEnd` have the
+    /// same causes as in a wait. If a clean failed, the error is the disk's own error of the first clean that failed. The later cleans were
+    /// done all the same. The accesses fail for the same causes as those of a wait.
     pub fn destroy(&mut self) -> Result<()>
         ensures destroyed { D.is_known self.old.disk → D.is_known self.new.disk × Destroys (result ≡ Ok tt)
             (meaning K.encoding V.encoding K.is_encodable V.is_encodable K.is_decodable V.is_decodable P.age)
@@ -110,7 +110,7 @@ where
         Err(Error::Memory)
     }
 
-    // Cleans a block, and brings the outcome: what was answered, and the error of the first clean that failed.
+    // Cleans a block, and reports the outcome. Gives the reply, and the error of the first clean that failed.
     fn clean(&mut self, block: BlockId, first: Option<Error>) -> (Reply<K, V, P, A>, Option<Error>)
         ensures cleans { D.is_known self.old.disk → Cleans
             (meaning K.encoding V.encoding K.is_encodable V.is_encodable K.is_decodable V.is_decodable P.age)

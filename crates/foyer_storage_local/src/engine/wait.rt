@@ -32,12 +32,13 @@ where
     E: EvictionPicker,
     C: StorageFilterCondition,
 {
-    /// Flushes until no flusher has anything left to do. Then it reclaims blocks until enough are clean, as far as that goes, and flushes the
-    /// records that reclaims read back. The first reclaims of a call, as many as there are blocks, have records written again if `env` has a
-    /// filter. The later ones free their blocks, so that the call ends. It puts, deletes and loads nothing, and closes nothing. Errors: `Io`
-    /// if a flusher's batch can't be ended, since a write of it was never reported; `NoSpace` if no block can be reclaimed; `SequenceEnd` if
-    /// the limit of steps is reached, or 2^64 - 1 turns weren't enough; `Memory` if a reclaim or a flush is refused it. A write or a clean is
-    /// reported as failed only if the disk failed an access, or if it isn't sure that its bytes lie in the disk.
+    /// Flushes until no flusher has anything left to do. Then it reclaims blocks until enough are clean, as far as that goes, and flushes
+    /// the records that reclaims read back. The first reclaims of a call, as many as there are blocks, have records written again if `env`
+    /// has a filter. The later ones free their blocks, so that the call ends. It puts, deletes and loads nothing, and closes nothing. A
+    /// failed write or clean is no error: the records of the failed batch are given up. Errors: `Io` if a flusher's batch can't be ended,
+    /// since a write of it was never reported; `NoSpace` if no block can be reclaimed; `SequenceEnd` if the limit of steps is reached, or
+    /// 2^64 - 1 turns weren't enough; `Memory` if a reclaim or a flush is refused it. A write or a clean is reported as failed only if the
+    /// disk failed an access, or its bytes may lie outside the disk.
     pub fn wait(&mut self) -> Result<()>
         ensures rest { IfOk result (λ _. ComesToRest
             (meaning K.encoding V.encoding K.is_encodable V.is_encodable K.is_decodable V.is_decodable P.age)
@@ -82,8 +83,8 @@ where
         self.settle()
     }
 
-    /// Takes no more puts, deletes and destroys, and flushes what is queued, as a wait does: nothing else. Its accesses fail
-    /// for what a wait's do.
+    /// Refuses puts, deletes and destroys from now on, and flushes what is queued, as a wait does. It reclaims a block only if a flusher
+    /// needs one. Errors: those of `wait`. Its accesses fail for the same causes as those of a wait.
     pub fn close(&mut self) -> Result<()>
         ensures rest { IfOk result (λ _. ComesToRest
             (meaning K.encoding V.encoding K.is_encodable V.is_encodable K.is_decodable V.is_decodable P.age)
@@ -237,8 +238,8 @@ where
         Err(Error::SequenceEnd)
     }
 
-    // Takes what is queued until less than half of the buffer is left. Gives true if nothing is queued any more. A piece that is handed back
-    // takes more than half of the buffer, or doesn't fit a block, and is dropped.
+    // Takes what is queued until less than half of the buffer is left. Gives true if it found the queue empty. It drops each piece that the
+    // step returns: one that has no room in the buffer, doesn't fit a block, or can't be encoded.
     fn receive_all(&mut self, flusher: u32) -> Result<bool>
         ensures leads { IfOk result (λ is_empty. Leads
             (meaning K.encoding V.encoding K.is_encodable V.is_encodable K.is_decodable V.is_decodable P.age)

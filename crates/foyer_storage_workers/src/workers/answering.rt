@@ -1,4 +1,4 @@
-//! How the waits that a batch's end hands back are answered.
+//! How the waits that a batch's end returns are answered.
 ghost use Rattle.std.specs.Prelude.{◌≡◌};
 
 use super::answers::{AllAnswered, Answers};

@@ -4,7 +4,7 @@ ghost use Rattle.std.specs.Prelude.{◌≡◌, ◌+◌, ◌<◌, Some, slice_get
 use foyer_storage_engine::engine::waits::GivenAnswer;
 use std::alloc::Allocator;
 
-/// Waits, of which so many, from the first on, were answered.
+/// Waits, the first `count` of which were answered.
 #[derive(Drop)]
 pub(super) struct Answers<A: Allocator> {
     ids: Vec<u64, A>,
@@ -18,14 +18,14 @@ pub(super) struct AllAnswered<A: Allocator> {
 }
 
 impl<A: Allocator> Answers<A> {
-    /// To these waits none yet.
+    /// Begins with these waits, none of which is answered.
     pub(super) fn new(ids: Vec<u64, A>) -> Answers<A>
         ensures { (result.ids ≡ ids) × (result.count ≡ 0) }
     {
         Answers { ids, count: 0 }
     }
 
-    /// The wait that is to be answered next.
+    /// The wait to answer next. There must be one.
     pub(super) fn next(&self) -> u64
         requires { self.now.count < vec_len self.now.ids }
         ensures { slice_get self.now.ids.items self.now.count ≡ Some result }
@@ -33,7 +33,7 @@ impl<A: Allocator> Answers<A> {
         self.ids[self.count]
     }
 
-    /// Notes its answer.
+    /// Notes the answer to the wait that `next` gives.
     pub(super) fn note(&mut self, given: GivenAnswer)
         requires some { self.old.count < vec_len self.old.ids }
         requires own { slice_get self.old.ids.items self.old.count ≡ Some given.id }
@@ -43,7 +43,7 @@ impl<A: Allocator> Answers<A> {
         self.count += 1;
     }
 
-    /// What shows that all were answered.
+    /// Gives what shows that all were answered. They must be.
     pub(super) fn into_all(self) -> AllAnswered<A>
         requires { self.count ≡ vec_len self.ids }
         ensures { result.ids ≡ self.ids }

@@ -7,7 +7,7 @@ use foyer_device_page::error::Result;
 use std::alloc::Allocator;
 use std::sync::{Mutex, Wait};
 
-/// Marks that were appended to a log, and the outcome: only an append gives them.
+/// Marks that a log was asked to append, and the outcome. Only an append gives one.
 #[derive(Drop)]
 pub struct Appended<A: Allocator> {
     marks: Vec<Tombstone, A>,

@@ -33,7 +33,7 @@ use foyer_storage_engine::engine::BlockEngine;
 use std::alloc::Allocator;
 use std::sync::{Mutex, Wait};
 
-// Does a write of a block, and reports its outcome: whether the next one is to be done.
+// Does a write of a block, and reports its outcome. Gives whether to do the next write.
 #[tactic(auto, using(foyer_storage_engine::proofs::HoldingLemmas::held_on, foyer_storage_engine::proofs::HoldingLemmas::held_by_step, crate::proofs::WorkerStepLemmas::not_next))]
 fn write_one<L, K, V, P, A, E, C, D, G, N, O>(
     rt: &impl Wait,
@@ -207,7 +207,7 @@ where
     unreachable!()
 }
 
-// What the end of a batch handed back: its pieces, which were released, and its waits, which were answered.
+// What the end of a batch returned: its pieces, which were released, and its waits, which were answered.
 #[derive(Drop)]
 pub(super) struct BatchEnd<K, V, P, A: Allocator> {
     released: AllReleased<K, V, P, A>,
@@ -282,7 +282,7 @@ pub(super) enum Begun<A: Allocator> {
     No,
     // One began, of an engine that has no log.
     Unlogged,
-    // One began, and its marks were appended to the log.
+    // One began, and an append of its marks to the log was made, which may have failed.
     Logged(Appended<A>),
 }
 

@@ -1,4 +1,4 @@
-//! A flusher's worker: it takes what is queued, writes it in batches, and gives back what was written.
+//! A flusher's worker: it takes what is queued, writes it in batches, and releases the pieces from the keeper.
 ghost use Rattle.std.specs.Prelude.{◌≡◌, ◌<◌};
 ghost use Rattle.foyer_storage_engine.specs.Ending.{HoldsNamed};
 ghost use Rattle.foyer_storage_workers.specs.Turning.{IsIdle};
@@ -20,16 +20,16 @@ use foyer_storage_engine::engine::BlockEngine;
 use std::alloc::{Allocator, Global};
 use std::sync::{Arc, Mutex, Wait};
 
-/// What a flusher's worker has of its own, beside the engine.
+/// What a flusher's worker has beside the engine.
 #[derive(Drop)]
 pub struct FlusherParts<K: Eq, V, P, A: Allocator, D: Disk + Drop, M: MarkLog + Drop> {
     /// Its number.
     pub flusher: u32,
     /// The disk that it writes to.
     pub disk: D,
-    /// What all flushers append marks to.
+    /// The log of deletes, to which all flushers append marks.
     pub log: Arc<Mutex<M>, Global>,
-    /// What has the pieces that aren't written yet.
+    /// The keeper, from which the worker releases pieces.
     pub keeper: Arc<Keeper<K, V, P, A>, Global>,
 }
 
@@ -89,7 +89,7 @@ where
 {
     /// The engine.
     pub engine: Arc<BlockEngine<L, K, V, P, Global, E, C, D, G, N>, Global>,
-    /// What the worker has of its own.
+    /// What the worker has beside the engine.
     pub parts: FlusherParts<K, V, P, Global, O, M>,
 }
 

@@ -18,14 +18,14 @@ use foyer_storage_engine::engine::BlockEngine;
 use std::alloc::Allocator;
 use std::sync::Wait;
 
-/// What shows that the entries of a block were to be forgotten: only who asked for that has one.
+/// Shows that the core was asked to forget a block's entries. Only `forget` gives one.
 #[derive(Drop)]
 pub(super) struct Forgotten {
     block: BlockId,
 }
 
 impl Forgotten {
-    /// The block, which may be cleaned then.
+    /// The block, which may be cleaned now.
     pub(super) fn block(&self) -> BlockId
         ensures { result ≡ self.now.block }
     {
@@ -33,7 +33,7 @@ impl Forgotten {
     }
 }
 
-/// Has the entries of a block that is reclaimed forgotten.
+/// Asks the core to forget the entries of a block that is reclaimed.
 #[tactic(auto, using(foyer_storage_engine::proofs::HoldingLemmas::held_by_step))]
 pub(super) fn forget<L, K, V, P, A, E, C, D, G, N>(
     rt: &impl Wait,

@@ -62,7 +62,7 @@ fn admitted<K, V, P, A: Allocator>(reply: &Reply<K, V, P, A>) -> u64 {
     }
 }
 
-// Reads a part of a block that is reclaimed, and reports what it gave: what the reply to that has read next.
+// Reads a part of a block that is reclaimed, and reports the outcome. Gives the part that the reply asks to read next.
 #[tactic(auto, using(foyer_storage_engine::proofs::HoldingLemmas::held_by_step))]
 fn read_part<L, K, V, P, A, E, C, D, G, N, O, T>(
     rt: &impl Wait,

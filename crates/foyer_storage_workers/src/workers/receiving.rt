@@ -59,10 +59,11 @@ where
 // How many records are taken for a batch at most, so that its pages are written while they are still in the processor's cache.
 const MOST_OF_A_BATCH: usize = 64;
 
-// How often the core's lock is taken for a batch at most: marks and waits are no records.
+// How often the core's lock is taken for a batch at most. Marks and waits don't count as records, so `MOST_OF_A_BATCH` doesn't limit
+// them.
 const MOST_HOLDS: u32 = 64;
 
-// What is taken under one hold of the core's lock at most: submissions, and bytes of records.
+// A hold of the core's lock ends after this many submissions, or once this many bytes of records were taken.
 const MOST_OF_A_HOLD: u32 = 64;
 
 const MOST_BYTES_OF_A_HOLD: usize = 64 << 10;
@@ -76,7 +77,7 @@ enum HoldEnd<K, V, P, A: Allocator> {
     More,
     // Memory was refused: it is to be tried again.
     Refused,
-    // A piece didn't fit, and is to be released; and whether a batch is to begin.
+    // A piece was returned, and must be released; and whether a flush is wanted.
     Back(PieceRef<K, V, P, A>, bool),
     // Nothing more is queued; and whether anything was taken before.
     Drained(bool),
@@ -91,7 +92,7 @@ enum Held {
     More,
     // Memory was refused: it is to be tried again.
     Refused,
-    // A piece didn't fit, and was released; and whether a batch is to begin.
+    // A piece was returned, and has been released; and whether a flush is wanted.
     Back(Released, bool),
     // Nothing more is queued; and whether anything was taken before.
     Drained(bool),
@@ -171,8 +172,9 @@ where
     HoldEnd::More
 }
 
-// Takes what is queued, until nothing is, a batch has enough, or less than half of the buffer is left: whether anything was taken,
-// or is to be tried again for want of memory. A piece that is handed back is released, once the core's lock is let go.
+// Takes what is queued. It ends if nothing is queued any more, a batch has enough, less than half of the buffer is left, or `MOST_HOLDS` is
+// reached. Gives whether anything was taken, or must be tried again after refused memory. A returned piece is released once the core's lock
+// is let go.
 #[tactic(auto, using(foyer_storage_engine::proofs::HoldingLemmas::held_on))]
 pub(super) fn receive_all<L, K, V, P, A, E, C, D, G, N>(
     rt: &impl Wait,

@@ -34,9 +34,9 @@ use std::sync::{Arc, Wait};
 pub struct ReclaimerParts<A: Allocator, D: Disk + Drop, T: Clock> {
     /// The disk that it reads and cleans.
     pub disk: D,
-    /// What shows the filter of reinsertions what the device did and has callers wait for.
+    /// The recorder. It gives the reinsertion filter the device's counters, and how long the device's limits make callers wait.
     pub recorder: Recorder<A>,
-    /// What gives the moment.
+    /// The clock of the moments at which the filter is asked.
     pub clock: T,
 }
 

@@ -64,24 +64,24 @@ where
     true
 }
 
-/// What shows that a flusher found nothing to write after its bell was closed: only a turn that began then gives it.
+/// Shows that a flusher found nothing to write after its bell was closed. Only a turn that began after the close gives one.
 #[derive(Drop)]
 pub(super) struct Drained {
     closed: BellClosed,
 }
 
-/// What a turn of a flusher came to.
+/// The outcome of a flusher's turn.
 #[derive(Drop)]
 pub(super) enum Turn {
     // There was something to do.
     Busy,
     // There was nothing to do.
     Idle,
-    // Nor will there be.
+    // There was nothing to do, and the bell had been closed before.
     Drained(Drained),
 }
 
-// What a turn came to, by whether there was anything to do and whether the bell had been closed before.
+// The outcome of a turn, by whether there was anything to do and whether the bell had been closed before.
 fn turn_of(is_busy: bool, closed: Option<BellClosed>) -> Turn
     ensures { result ≡ turn_as is_busy closed }
 {
@@ -94,7 +94,7 @@ fn turn_of(is_busy: bool, closed: Option<BellClosed>) -> Turn
     }
 }
 
-/// A turn: takes what is queued, and writes it as one batch. `closed` is what shows that the bell of what is queued was closed before it.
+/// Takes a turn: it takes what is queued, and writes it as one batch. `closed` shows that the bell `queued` was closed before the turn.
 #[tactic(auto, using(foyer_storage_engine::proofs::HoldingLemmas::held_on))]
 pub(super) fn take_turn<L, K, V, P, A, E, C, D, G, N, O, M>(
     rt: &impl Wait,

@@ -84,8 +84,8 @@ impl<A: Allocator> BlockManager<A> {
         }
     }
 
-    /// A destroy takes all blocks from their flushers, begins a new filling of each, and cleans from now on: until
-    /// `end_cleaning` no block is handed out and no reclaim begins. The pickers learn of the blocks that became evictable.
+    /// Begins the cleaning of a destroy. Takes all blocks from their flushers, and begins a new filling of every block. Until
+    /// `end_cleaning` no clean block is handed out and no reclaim begins. The pickers are notified of the blocks that became evictable.
     pub fn clear<P: EvictionPicker>(&mut self, pickers: &mut [P])
         ensures same { HasSameRules self.old self.new }
         ensures cleared { (s : BlockSets) → Stands self.old s → Stands self.new (cleared (length self.old.blocks) s) }
@@ -98,7 +98,7 @@ impl<A: Allocator> BlockManager<A> {
         self.is_cleaning = true;
     }
 
-    /// The last clean of a destroy has ended.
+    /// Ends the cleaning of a destroy: blocks may be handed out again, and reclaims may begin.
     pub fn end_cleaning(&mut self)
         ensures same { HasSameRules self.old self.new }
         ensures quiet { (s : BlockSets) → Stands self.old s → Stands self.new (record s { is_cleaning = false }) }

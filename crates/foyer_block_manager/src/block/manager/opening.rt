@@ -24,7 +24,7 @@ pub struct ManagerConfig {
     pub flushers: u32,
     /// How many reclaims may run at a time.
     pub reclaimers: usize,
-    /// A reclaim may begin if fewer blocks than this are clean.
+    /// A reclaim may begin if fewer blocks than this are clean, and also if a flusher waits for one.
     pub clean_threshold: usize,
 }
 
@@ -54,7 +54,7 @@ where
     Ok(true)
 }
 
-// The pickers are shown all evictable blocks, in the order of their ids.
+// Notifies the pickers of all evictable blocks, in the order of the blocks' ids.
 fn show_all_evictable<P: EvictionPicker, A: Allocator>(
     pickers: &mut [P],
     blocks: &Vec<BlockState, A>,
@@ -132,8 +132,8 @@ impl<A: Allocator> BlockManager<A> {
         }
     }
 
-    /// Makes these evictable blocks clean, in this order, and lets the pickers know the others in the order of their ids. Errors: `Config` if
-    /// an id is there twice, or isn't that of an evictable block. After a refusal nothing has changed.
+    /// Makes these evictable blocks clean, in this order, and notifies the pickers of the others in the order of their ids. Errors:
+    /// `Config` if an id is there twice, or isn't that of an evictable block; `Memory`. An error changes nothing.
     pub fn init<P: EvictionPicker>(
         &mut self,
         alloc: &A,

@@ -45,7 +45,7 @@ impl<A: Allocator> BlockManager<A> {
     ghost use Rattle.foyer_block_manager.specs.BlockSets.{BlockSets, Stands, HasSameRules, without_stats};
     ghost use Rattle.foyer_block_manager.specs.Statistics.{with_invalid, with_access};
 
-    /// A delete made this many more bytes of a block invalid; the count stays at the type's end.
+    /// Counts `bytes` more invalid bytes of a block. The count stays at the type's end.
     pub fn invalidate(&mut self, block: BlockId, bytes: usize)
         ensures same { HasSameRules self.old self.new }
         ensures invalid { (s : BlockSets) → Stands self.old s → Stands self.new (with_invalid s block bytes) }
@@ -53,7 +53,7 @@ impl<A: Allocator> BlockManager<A> {
         add_invalid(&mut self.blocks, block, bytes);
     }
 
-    /// A load reads a record of a block; the count stays at the type's end.
+    /// Counts one more load that reads from a block. The count stays at the type's end.
     pub fn note_access(&mut self, block: BlockId)
         ensures same { HasSameRules self.old self.new }
         ensures access { (s : BlockSets) → Stands self.old s → Stands self.new (with_access s block) }
@@ -61,7 +61,7 @@ impl<A: Allocator> BlockManager<A> {
         add_access(&mut self.blocks, block);
     }
 
-    /// The clean of a block by a destroy has ended: its statistics begin anew, and it stays in its set.
+    /// Resets the statistics of a block whose clean by a destroy has ended. The block stays in its set.
     pub fn on_clean_finish(&mut self, block: BlockId)
         ensures same { HasSameRules self.old self.new }
         ensures stats { (s : BlockSets) → Stands self.old s → Stands self.new (without_stats s block) }

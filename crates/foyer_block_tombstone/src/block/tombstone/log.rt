@@ -57,7 +57,7 @@ impl<E: IoEngine + Drop, P: Partition + Drop, A: Allocator> Model for TombstoneL
         × IfSome l.buffer.page (λ n. IfKnown (E.disk l.buffer.engine) (λ d. HoldsPage d l.buffer.places n l.buffer.bytes)) };
 }
 
-// The number behind so many marks, put from one on. At the end of the numbers it is one of the same slot.
+// Gives the number after `count` marks that are put from `slot` on. If that number doesn't fit 64 bits, gives one of the same slot.
 fn slot_behind(slot: u64, count: usize, slots: u64) -> u64
     requires { (0 < slots) × (slots < 2 ^ 63) }
     ensures far { slot + count < 2 ^ 64 → result ≡ slot + count }
@@ -70,7 +70,7 @@ fn slot_behind(slot: u64, count: usize, slots: u64) -> u64
     }
 }
 
-// How many pages so many marks come into, put from the slot `start` on.
+// Gives how many pages `count` marks come into, if they are put from the slot `start` on.
 fn touched_pages(start: u64, count: usize, pages: u64) -> u64
     requires some { 0 < count }
     requires few { (0 < pages) × (pages < 2 ^ 55) }
@@ -87,7 +87,7 @@ fn touched_pages(start: u64, count: usize, pages: u64) -> u64
     pages.min((start % slots + count + (slots - 1)) / slots)
 }
 
-// Puts those of the marks, which begin at the slot `start`, that come into a page, which is then loaded.
+// Loads a page, puts into it those of the marks that come into it, and writes it. The marks begin at the slot `start`.
 fn put_page<E: IoEngine + Drop, P: Partition + Drop, A: Allocator>(
     buffer: &mut PageBuffer<E, P, A>,
     page: u64,
@@ -151,9 +151,9 @@ impl<E: IoEngine + Drop, P: Partition + Drop, A: Allocator> TombstoneLog<E, P, A
     /// How many marks a page has room for.
     pub const SLOTS_PER_PAGE: usize = marks::SLOTS_PER_PAGE;
 
-    /// Opens the log in the pages of the partitions. It lists the log's marks behind what `tombstones` has, in order of their slots. The log
-    /// goes on behind the mark of the greatest sequence, the last one among equals. An empty log goes on at slot 1. Errors: `OutOfRange` if
-    /// there is no page, or a page isn't there; `Memory`; `Io`. After a refusal `tombstones` is as it was.
+    /// Opens the log in the pages of the partitions. Appends the log's marks to `tombstones`, in order of their slots. The log continues
+    /// after the mark of the greatest sequence, the last one among equals, or at slot 1 if it is empty. Errors: `OutOfRange` if there is no
+    /// page, if there are 2^55 or more, or if a page isn't there; `Memory`; `Io`. An error leaves `tombstones` as it was.
     pub fn open(
         alloc: A,
         partitions: Vec<P, A>,
@@ -211,9 +211,9 @@ impl<E: IoEngine + Drop, P: Partition + Drop, A: Allocator> TombstoneLog<E, P, A
         self.buffer.writes()
     }
 
-    /// Puts the marks at the numbers from the log's own number on, and writes each page that they come into once. Without marks it writes
-    /// nothing. Errors: `OutOfRange` if a page isn't there; `Io`. Then the log's number is as before and no page is loaded. Any bytes may
-    /// stand in the pages that the marks come into.
+    /// Puts the marks at the numbers from `slot` on, and writes each page that they come into once. This asks that no two partitions
+    /// overlap. Without marks it writes nothing. Errors: `OutOfRange` if a page isn't there; `Io`. An error leaves `slot` as it was. Any
+    /// bytes may then stand in the pages that the marks come into.
     pub fn append(&mut self, marks: &[Tombstone]) -> Result<()>
         ensures places { self.new.places ≡ self.old.places }
         ensures slot { OnOk result ((self.old.slot + length marks.now < 2 ^ 64 → self.new.slot ≡ self.old.slot + length marks.now)

@@ -14,7 +14,7 @@ use foyer_device_partition::io::device::Partition;
 use foyer_io_engine::io::engine::IoEngine;
 use std::alloc::Allocator;
 
-/// How many pages the log of deletes of a device of so many bytes has: a slot for each of the device's pages.
+/// Gives how many pages the log of deletes has for a device of `capacity` bytes: a slot for each of the device's pages, rounded up.
 pub fn log_pages(capacity: usize) -> usize
     ensures { result ≡ log_pages capacity }
 {

@@ -89,7 +89,7 @@ fn last_index(slot: u64, start: u64, slots: u64, count: usize) -> Option<usize>
     Some((first + (count - 1 - first) / slots * slots) as usize)
 }
 
-// Puts the last of the marks that comes to the slot `slot` of the log into the slot j of its page.
+// Puts the last of the marks that comes to the slot `slot` of the log, if one does, into the slot j of its page.
 fn put_mark(bytes: &mut [u8], j: usize, slot: u64, start: u64, slots: u64, marks: &[Tombstone])
     requires size { 16 * j + 16 ≤ length bytes.old }
     requires within { (slot < slots) × (start < slots) }
@@ -116,14 +116,14 @@ pub(super) fn put_marks(bytes: &mut [u8], page: u64, start: u64, slots: u64, mar
     }
 }
 
-/// The greatest sequence of the marks that were read, and the slot behind that mark. If no mark was read, these are 0 and 1.
+/// The greatest sequence of the marks that were read, and the slot after that mark. If no mark was read, these are 0 and 1.
 #[derive(Clone, Copy, Debug)]
 pub(super) struct Newest {
     pub(super) sequence: u64,
     pub(super) slot: u64,
 }
 
-// Takes the mark of a slot: an empty one isn't listed. Memory.
+// Takes the mark of a slot: an empty one isn't listed. Errors: `Memory`.
 fn take_mark<A: Allocator>(
     mark: Tombstone,
     slot: u64,
@@ -151,7 +151,7 @@ fn take_mark<A: Allocator>(
     Ok(())
 }
 
-// Takes the marks of a page, in order. Memory.
+// Takes the marks of a page, in order. Errors: `Memory`.
 pub(super) fn take_marks<A: Allocator>(
     bytes: &[u8],
     page: u64,

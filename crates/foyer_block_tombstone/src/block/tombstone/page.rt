@@ -23,7 +23,7 @@ use std::alloc::Allocator;
 use std::marker::Model;
 use std::mem::swap;
 
-/// One page of those that run through the partitions in order, in memory of its own. If no page is loaded, it has no bytes.
+/// One page of the partitions, whose pages are numbered in order, in memory of its own. If no page is loaded, it has no bytes.
 pub struct PageBuffer<E: IoEngine + Drop, P: Partition + Drop, A: Allocator> {
     engine: E,
     partitions: Vec<P, A>,
@@ -67,7 +67,7 @@ impl<E: IoEngine + Drop, P: Partition + Drop, A: Allocator> Model for PageBuffer
     ghost invariant = { λ b. HasMemory b.page b.shown b.spare };
 }
 
-// Zeros, as many as a page has or none. Memory.
+// Gives zeros, as many as a page has or none. Errors: `Memory`.
 #[tactic(auto, unfolding(foyer_format_layout::specs::Page::page_up))]
 fn page_memory<A: Allocator>(alloc: A, len: usize) -> Result<Raw<A>>
     requires { len ≤ 4096 }
@@ -81,7 +81,7 @@ fn page_memory<A: Allocator>(alloc: A, len: usize) -> Result<Raw<A>>
 }
 
 impl<E: IoEngine + Drop, P: Partition + Drop, A: Allocator + Clone> PageBuffer<E, P, A> {
-    // A buffer without a page. Memory.
+    // Gives a buffer without a page. Errors: `Memory`.
     pub(super) fn new(alloc: A, engine: E, partitions: Vec<P, A>) -> Result<PageBuffer<E, P, A>>
         ensures new { IfOk result (λ b. b ≡ record {
           engine = engine;

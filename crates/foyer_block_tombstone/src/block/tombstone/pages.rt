@@ -12,7 +12,7 @@ use foyer_device_partition::io::device::Partition;
 use foyer_io_engine::io::engine::IoEngine;
 use std::alloc::Allocator;
 
-// The most pages whose slots are counted by less than 63 bits.
+// The most pages whose slots are fewer than 2^63: 2^55 - 1.
 const MAX_PAGES: u64 = 36028797018963967;
 
 // Gives how many pages the partitions have, or None if that is too many.
@@ -71,7 +71,7 @@ pub(super) fn read_page<E: IoEngine, P: Partition, A: Allocator>(
     engine.read(bytes, partition, offset).into_inner()
 }
 
-// Bytes that are lent to a write.
+// Bytes that are borrowed for a write.
 struct Lent<'a>(&'a [u8]);
 
 impl Drop for Lent<'_> {

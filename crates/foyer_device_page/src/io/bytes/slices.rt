@@ -47,7 +47,7 @@ impl<A: Allocator> Model for IoSlice<A> {
 impl<A: Allocator> IoSlice<A> {
     ghost use Rattle.foyer_device_page.specs.Section.{all_of, bytes_of, part_of};
 
-    /// Takes all of a buffer. If memory was refused, hands the buffer back.
+    /// Makes a slice of a whole buffer. If memory was refused, the error has the buffer.
     pub fn from_raw(alloc: A, raw: Raw<A>) -> std::result::Result<IoSlice<A>, AllocFailed<Raw<A>>>
         ensures all { IfOk result (λ s. s ≡ all_of raw) }
         ensures handed_back { IfErr result (λ e. e.value ≡ raw) }
@@ -73,8 +73,9 @@ impl<A: Allocator> IoSlice<A> {
         self.end - self.start
     }
 
-    /// Gives a range of these bytes, counted from their start, as one more owner of the buffer.
-    /// Nothing is copied. Error: Memory if the owners can't be counted any more.
+    /// Gives a range of these bytes, counted from their start, as one more owner of the buffer. The
+    /// range begins and ends at a page. Nothing is copied. Error: Memory if the owners can't be
+    /// counted any more.
     #[tactic(auto, using(crate::proofs::Parts::parts))]
     pub fn slice(&self, range: Range<usize>) -> Result<IoSlice<A>>
         requires start { range.start % 4096 ≡ 0 }
@@ -96,7 +97,7 @@ impl<A: Allocator> IoSlice<A> {
     }
 
     /// Gives the whole buffer, to be written over. If the buffer has another owner, gives this slice
-    /// again.
+    /// as `Err`.
     pub fn try_into_unique(self) -> std::result::Result<IoSliceMut<A>, IoSlice<A>>
         ensures whole { IfOk result (λ m. m ≡ self.whole) }
         ensures handed_back { IfErr result (λ s. s ≡ self) }

@@ -85,8 +85,8 @@ impl<A: Allocator> IoSliceMut<A> {
         self.raw.as_mut_slice()
     }
 
-    /// Gives the same bytes as a buffer that may have several owners. If memory was refused, hands
-    /// the bytes back.
+    /// Gives the same bytes as a buffer that may have several owners. If memory was refused, the
+    /// error has the bytes.
     pub fn into_io_slice(
         self,
         alloc: A,

@@ -37,7 +37,7 @@ pub trait IoBufMut: IoB {
         Self: Sized,
         ensures { result ≡ self };
 
-    // As many bytes as it had are what it has then.
+    // If the buffer is filled with as many bytes as it has, it then has these bytes.
     ghost fills: { (s : Self) (bytes : List ℕ) → length bytes ≡ length (Self.bytes s)
         → Self.bytes (filled s bytes) ≡ bytes };
 }

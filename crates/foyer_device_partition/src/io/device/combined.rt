@@ -42,8 +42,8 @@ impl<D: Device, A: Allocator> CombinedDeviceBuilder<D, A> {
         }
     }
 
-    /// With one device more behind the others. Its partitions, if it has some, are none of the combined device's.
-    /// Memory.
+    /// Adds a device after the others. Partitions that it has already don't belong to the combined device. Error:
+    /// Memory. Then all the devices are dropped.
     pub fn with_device(self, device: D) -> Result<CombinedDeviceBuilder<D, A>>
         ensures added { IfOk result (λ b. b.devices.items ≡ self.devices.items ++ device ∷ []) }
         ensures limits { IfOk result (λ b. b.throttle ≡ self.throttle) }
@@ -143,8 +143,9 @@ impl<D: Device, A: Allocator + Clone> DeviceBuilder<A> for CombinedDeviceBuilder
     }
 }
 
-/// Devices that are asked one after another: the present one until it has no space, then the next, and never one before
-/// again. Behind the last one there is no present device, and NoSpace is answered.
+/// Several devices. One of them is the present device, in which partitions are made. If it has no space for a size, the
+/// next device becomes the present one. The combined device never returns to an earlier device, even if a smaller size
+/// would fit there. So after one NoSpace it takes no more partitions.
 #[derive(Drop)]
 pub struct CombinedDevice<D: Device, A: Allocator> {
     devices: Vec<D, A>,
@@ -265,8 +266,8 @@ impl<D: Device, A: Allocator> CombinedDevice<D, A> {
     }
 }
 
-/// A partition of a combined device: one of one of its devices, with a number of its own, whose files follow those of
-/// the devices before.
+/// A partition of a combined device: a partition of one of its devices, with a number of its own. The numbers of that
+/// device's files follow those of the devices before.
 #[derive(Copy, Debug)]
 pub struct CombinedPartition<P: Partition> {
     id: PartitionId,

@@ -24,8 +24,8 @@ pub struct FileDeviceBuilder<'a> {
 }
 
 impl<'a> FileDeviceBuilder<'a> {
-    /// Begins a device over the file at a path. The file is made if it is missing. The device has no
-    /// capacity yet.
+    /// Begins a device over the file at a path. `build` makes the file if it is missing, and answers
+    /// Config if no capacity was given.
     pub fn new(path: &'a str) -> FileDeviceBuilder<'a>
         ensures capacity { result.capacity ≡ None }
         ensures limits { result.throttle ≡ unlimited }
@@ -80,7 +80,7 @@ impl<A: Allocator + Clone> DeviceBuilder<A> for FileDeviceBuilder<'_> {
     }
 }
 
-/// Partitions one behind another in a file.
+/// Partitions one after another in a file.
 #[derive(Drop)]
 pub struct FileDevice<A: Allocator> {
     path: String<A>,

@@ -25,8 +25,8 @@ pub struct FsDeviceBuilder<'a> {
 }
 
 impl<'a> FsDeviceBuilder<'a> {
-    /// Begins a device over the directory at a path. The directory is made with its parents if it is missing. The
-    /// device has no capacity yet.
+    /// Begins a device over the directory at a path. `build` makes the directory with its parents if it is missing, and
+    /// answers Config if no capacity was given.
     pub fn new(dir: &'a str) -> FsDeviceBuilder<'a>
         ensures capacity { result.capacity ≡ None }
         ensures limits { result.throttle ≡ unlimited }
@@ -93,7 +93,7 @@ pub struct FsDevice<A: Allocator> {
     since: u64,
 }
 
-/// The path of the file of a partition, of a device over the directory at a path. Memory alone refuses it.
+/// Gives the path of a partition's file, for a device over the directory `dir`. It fails only if memory is refused.
 pub fn partition_path<A: Allocator>(
     alloc: A,
     dir: &str,
@@ -112,7 +112,7 @@ impl<A: Allocator> FsDevice<A> {
         partition_path(alloc, self.dir.as_str(), id)
     }
 
-    // Gives a partition's file its length. Io, Memory.
+    // Gives a partition's file its length. Errors: Io, Memory.
     fn lay<R: Files>(&self, rt: &R, id: u32, size: usize) -> Result<()>
         ensures { IfErr result (λ e. (e ≡ error.Io) ⊎ (e ≡ error.Memory)) }
     {
@@ -120,7 +120,7 @@ impl<A: Allocator> FsDevice<A> {
         lay_file(rt, path.as_str(), size)
     }
 
-    // Whether a partition of that size may be made: Config, NoSpace, in this order.
+    // Checks whether a partition of that size may be made. Errors, in this order: Config, NoSpace.
     fn admit(&self, size: usize) -> Result<()>
         ensures size { OnOk result (IsPartitionSize size) }
         ensures numbers { OnOk result (length self.now.sizes < 2 ^ 32) }
@@ -239,7 +239,7 @@ impl<A: Allocator> Device for FsDevice<A> {
     }
 
     /// Makes the partition's file if it is missing, and gives it exactly the partition's length. A shorter file is
-    /// lengthened by zeros, a longer file is cut. The file stays so if Memory is answered after that.
+    /// lengthened by zeros, a longer file is cut. After Io or Memory the file may have been made or changed.
     fn create_partition<R: Files>(&mut self, rt: &R, size: usize) -> Result<FsPartition> {
         self.admit(size)?;
         let id = self.sizes.len() as PartitionId;

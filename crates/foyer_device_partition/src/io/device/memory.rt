@@ -56,7 +56,7 @@ impl<A: Allocator> DeviceBuilder<A> for MemoryDeviceBuilder {
     }
 }
 
-/// Partitions one behind another in the bytes of one file, which is in memory.
+/// Partitions one after another in the bytes of one file, which is in memory.
 #[derive(Drop)]
 pub struct MemoryDevice<A: Allocator> {
     region: Region<A>,

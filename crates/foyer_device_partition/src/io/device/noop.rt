@@ -19,7 +19,7 @@ pub struct NoopDeviceBuilder {
 }
 
 impl NoopDeviceBuilder {
-    /// A device that says to have that many bytes.
+    /// A device that claims to have that many bytes.
     pub fn new(capacity: usize) -> NoopDeviceBuilder
         ensures { result.capacity ≡ capacity }
     {
@@ -141,7 +141,7 @@ impl<A: Allocator> Device for NoopDevice<A> {
         false
     }
 
-    /// Any size of whole pages, whatever the capacity; NoSpace and Io don't come.
+    /// Takes any size of whole pages except 0, whatever the capacity. It never answers NoSpace or Io.
     #[tactic(auto, using(crate::proofs::EmptyLemmas::empty_push))]
     fn create_partition<R: Files>(&mut self, _rt: &R, size: usize) -> Result<NoopPartition> {
         if size == 0 || size % PAGE != 0 || self.sizes.len() >= MAX_PARTITIONS {

@@ -17,7 +17,7 @@ pub struct PartialDeviceBuilder<D: Device> {
 }
 
 impl<D: Device> PartialDeviceBuilder<D> {
-    /// A part of a device, or of a `&mut` to one, as large as it is.
+    /// A part of a device, or of a `&mut` to one. The part has the device's capacity.
     pub fn new(device: D) -> PartialDeviceBuilder<D>
         ensures { (result.device ≡ device) × (result.capacity ≡ None) }
     {
@@ -27,7 +27,7 @@ impl<D: Device> PartialDeviceBuilder<D> {
         }
     }
 
-    /// That many bytes, which is refused when it is built if the device has fewer.
+    /// That many bytes. `build` answers Config if the device's capacity is smaller.
     pub fn with_capacity(self, capacity: usize) -> PartialDeviceBuilder<D>
         ensures { (result.device ≡ self.device) × (result.capacity ≡ Some capacity) }
     {
@@ -64,7 +64,7 @@ impl<D: Device, A: Allocator> DeviceBuilder<A> for PartialDeviceBuilder<D> {
     }
 }
 
-/// Partitions of a device, of no more bytes together than a capacity of its own.
+/// Partitions of a device, which together take no more bytes than the part's own capacity.
 #[derive(Drop)]
 pub struct PartialDevice<D: Device> {
     device: D,

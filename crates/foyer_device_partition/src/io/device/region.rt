@@ -1,4 +1,4 @@
-//! Partitions one behind another in the bytes of a file.
+//! Partitions, one after another, in the bytes of a file.
 ghost use Rattle.std.specs.Prelude.{◌≡◌, ◌⊎◌, ◌+◌, ◌-◌, ◌*◌, ◌/◌, ◌<◌, ◌≤◌, ◌^◌, ◌↔◌, ℕ, List, [], ◌∷◌, ◌++◌, Some, IsTrue, IfOk, IfErr, OnErr, MatchResult, length, slice_get, nat_lt, nat_le, ◌&&◌, sum};
 ghost use Rattle.foyer_device_partition.specs.Extent.{IsPartitionSize, AreDisjoint, LieInFiles, EndBy, laid_from, total_size};
 ghost use Rattle.foyer_device_partition.specs.Region.{lacks_space, has_all_numbers};
@@ -80,7 +80,7 @@ impl<A: Allocator> Region<A> {
         self.slots.len() < MAX_PARTITIONS && size > self.capacity - self.allocated
     }
 
-    // Makes a slot behind the others. Config, NoSpace, Memory, in this order.
+    // Makes a slot after the others. Errors, in this order: Config, NoSpace, Memory.
     pub(super) fn create(&mut self, size: usize) -> Result<Slot>
         ensures made { IfOk result (λ s. (self.new.sizes ≡ self.old.sizes ++ size ∷ [])
             × (laid_from 0 self.new.sizes ≡ laid_from 0 self.old.sizes ++ extent_of s ∷ [])
@@ -111,7 +111,7 @@ impl<A: Allocator> Region<A> {
         Ok(slot)
     }
 
-    // Which numbers the partitions lie in, and that none shares a byte with another.
+    // For contracts: the partitions lie in file 0, within the capacity, and no two share a byte.
     pub(super) fn show(&self)
         ensures apart { AreDisjoint (laid_from 0 self.now.sizes) }
         ensures within { LieInFiles 1 (laid_from 0 self.now.sizes) }

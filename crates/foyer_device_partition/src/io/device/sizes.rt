@@ -58,7 +58,7 @@ impl<A: Allocator> Sizes<A> {
         self.sizes[id as usize]
     }
 
-    // One size more. Memory.
+    // Appends a size. Error: Memory.
     pub(super) fn push(&mut self, size: usize) -> Result<()>
         requires { length self.old < 2 ^ 32 }
         ensures pushed { OnOk result (self.new ≡ self.old ++ size ∷ []) }

@@ -1,4 +1,4 @@
-//! Buffers for an engine's calls: one that owns what is read, one that lends what is written.
+//! Buffers for an engine's calls: one that owns the bytes to be read, one that borrows the bytes to be written.
 ghost use Rattle.std.specs.Prelude.{◌≡◌, ℕ, List, length};
 ghost use Rattle.std.specs.Borrow.{sem, Lends, Array, u8};
 ghost use Rattle.foyer_device_page.specs.Refilled.{refilled, refilled-same};
@@ -8,7 +8,7 @@ use foyer_device_page::io::bytes::{IoB, IoBuf, IoBufMut};
 use std::alloc::Allocator;
 use std::marker::Model;
 
-/// The bytes of a vector, to be read over.
+/// A vector whose bytes a read replaces.
 #[derive(Drop)]
 pub struct ReadBuffer<A: Allocator> {
     bytes: Vec<u8, A>,
@@ -70,7 +70,7 @@ impl<A: Allocator> IoBufMut for ReadBuffer<A> {
     }
 }
 
-/// Bytes that are lent for a write.
+/// Bytes that are borrowed for a write.
 pub struct WriteBuffer<'a>(pub &'a [u8]);
 
 impl Drop for WriteBuffer<'_> {

@@ -8,8 +8,9 @@ use foyer_device_page::error::Error;
 use foyer_device_page::io::bytes::{IoBuf, IoBufMut};
 use foyer_device_partition::io::device::Partition;
 
-/// An engine whose call of a number fails with Io, counted from 1: a read of nothing, a write after its first bytes.
-/// All other calls are the inner engine's, unless it is to stop: then all later ones fail too, and write nothing.
+/// An engine whose n-th call fails with Io, counted from 1. If that call is a read, it reads nothing. If it is a write, it
+/// first writes at most `kept` bytes. With `stop`, all later calls fail too, and write nothing. All other calls are the
+/// inner engine's.
 #[derive(Drop)]
 pub struct FaultIoEngine<E: Drop> {
     inner: E,
@@ -21,8 +22,8 @@ pub struct FaultIoEngine<E: Drop> {
 }
 
 impl<E: IoEngine + Drop> FaultIoEngine<E> {
-    /// Call n from 1 fails, a write after `kept` bytes, and with `stop` all later calls too. With n = 0 only `stop`
-    /// counts: then every call fails.
+    /// The n-th call fails, a write after at most `kept` bytes, and with `stop` all later calls fail too. With n = 0,
+    /// every call fails if `stop` is true, and none if it is false.
     pub fn new(inner: E, n: u64, kept: usize, stop: bool) -> FaultIoEngine<E>
         ensures inner { result.inner ≡ inner }
         ensures fresh { result.failed ≡ 0 }
@@ -46,7 +47,7 @@ impl<E: IoEngine + Drop> FaultIoEngine<E> {
     }
 }
 
-// Says whether a call fails, if so many calls are left up to the one that does.
+// Says whether a call fails, if `left` calls are left up to and with the one that does.
 fn fails(left: &mut u64, stop: bool) -> bool
     ensures later { 1 < left.old → (result ≡ false) × (left.new + 1 ≡ left.old) }
     ensures now { left.old ≡ 1 → (result ≡ true) × (left.new ≡ 0) }
@@ -87,7 +88,7 @@ impl<E: IoEngine + Drop> IoEngine for FaultIoEngine<E> {
         partition: &P,
         offset: u64,
     ) -> IoHandle<B> {
-        // What comes behind the call of the number writes nothing.
+        // A failing call after the n-th writes nothing.
         let kept = if self.left == 1 { self.kept } else { 0 };
         if fails(&mut self.left, self.stop) {
             self.failed = self.failed.saturating_add(1);

@@ -7,7 +7,7 @@ use super::{IoEngineBuildContext, IoEngineConfig};
 use foyer_device_page::error::Result;
 use std::alloc::Allocator;
 
-/// Builds engines over those of another config, each of which fails its own call of a number, as `FaultIoEngine` says.
+/// Builds a `FaultIoEngine` over each engine that another config builds. Each of them counts its own calls.
 #[derive(Drop)]
 pub struct FaultIoEngineConfig<C: Drop> {
     inner: C,
@@ -17,7 +17,7 @@ pub struct FaultIoEngineConfig<C: Drop> {
 }
 
 impl<C: Drop> FaultIoEngineConfig<C> {
-    /// Of each engine call n from 1 fails, a write after `kept` bytes, and with `stop` all its later calls too.
+    /// Each engine is made with `n`, `kept` and `stop`, as `FaultIoEngine::new` has them.
     pub fn new(inner: C, n: u64, kept: usize, stop: bool) -> FaultIoEngineConfig<C>
         ensures inner { result.inner ≡ inner }
         ensures armed { (result.n ≡ n) × (result.kept ≡ kept) × (result.stop ≡ stop) }

@@ -31,7 +31,7 @@ impl<B> IoHandle<B> {
         }
     }
 
-    /// The buffer and the result, with no runtime and no memory.
+    /// Gives the buffer and the result, without a runtime and without memory. They must not have been given before.
     pub fn into_inner(self) -> (B, Result<()>)
         requires { IsSome self }
         ensures { self ≡ Some result }

@@ -12,7 +12,7 @@ use foyer_device_partition::io::device::{Partition, RawFile};
 use std::alloc::Allocator;
 use std::marker::Model;
 
-/// The files of a device in memory, whose bytes contracts see. It never fails.
+/// The files of a device in memory, whose bytes contracts see. It never answers Io.
 pub struct MemoryIoEngine<A: Allocator> {
     files: Vec<MemoryFile<A>, A>,
 }
@@ -54,7 +54,7 @@ impl<A: Allocator> MemoryIoEngine<A> {
         Ok(())
     }
 
-    // Whether so many bytes from a place of a file on are there.
+    // Whether `len` bytes from a place of a file on are there.
     fn has(&self, file: RawFile, at: u64, len: usize) -> bool
         ensures { IsTrue result ↔ IsWithin (disk_of self.now) file.0 at len }
     {

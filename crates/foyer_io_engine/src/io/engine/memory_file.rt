@@ -64,7 +64,7 @@ fn get_at(memory: &[u8], start: usize, into: &mut [u8])
 }
 
 impl<A: Allocator> MemoryFile<A> {
-    /// That many zeros. Memory.
+    /// A file of `len` zeros. Error: Memory.
     pub fn new(alloc: A, len: usize) -> Result<MemoryFile<A>>
         ensures zeros { IfOk result (λ f. f ≡ record { len = len; bytes = [] }) }
         ensures memory { OnErr result (result ≡ Err error.Memory) }
@@ -75,14 +75,14 @@ impl<A: Allocator> MemoryFile<A> {
         })
     }
 
-    /// Whether so many bytes from a place on lie in it.
+    /// Whether `len` bytes from a place on lie in it.
     pub fn has(&self, at: u64, len: usize) -> bool
         ensures { IsTrue result ↔ (at + len ≤ self.now.len) }
     {
         len <= self.len && at <= (self.len - len) as u64
     }
 
-    /// Fills `into` with the bytes from a place on.
+    /// Fills `into` with the bytes from a place on. They must lie in the file.
     pub fn read_at(&self, at: u64, into: &mut [u8])
         requires { at + length into.old ≤ self.now.len }
         ensures { (i : ℕ) → i < length into.new
@@ -91,7 +91,7 @@ impl<A: Allocator> MemoryFile<A> {
         get_at(self.bytes.as_slice(), at as usize, into);
     }
 
-    /// Writes the bytes over those from a place on.
+    /// Writes the bytes over those from a place on. These must lie in the file.
     pub fn write_at(&mut self, at: u64, bytes: &[u8])
         requires { at + length bytes.now ≤ self.old.len }
         ensures same { self.new.len ≡ self.old.len }

@@ -46,7 +46,7 @@ impl<R: Files<File = File> + Alloc> IoEngineConfig<R> for PsyncIoEngineConfig {
     }
 }
 
-/// Files of its own, each opened once, which it reads and writes at a place and in full: a short read is Io.
+/// An engine over files that it opened, each once. It reads and writes them at a place and in full: a short read is Io.
 pub struct PsyncIoEngine<A: Allocator> {
     files: Vec<File, A>,
     failures: u64,

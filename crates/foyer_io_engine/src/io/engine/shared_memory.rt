@@ -23,7 +23,7 @@ impl<A: Allocator> Drop for SharedMemoryIoEngineConfig<A> {
 }
 
 impl<A: Allocator> SharedMemoryIoEngineConfig<A> {
-    /// Engines over this memory. Memory.
+    /// A config for engines over this memory. Error: Memory.
     pub fn new(alloc: A, memory: MemoryIoEngine<A>) -> Result<SharedMemoryIoEngineConfig<A>> {
         let memory = Arc::new(alloc, Mutex::new(memory))?;
         Ok(SharedMemoryIoEngineConfig { memory })

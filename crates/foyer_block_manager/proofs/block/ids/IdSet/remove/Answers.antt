@@ -22,7 +22,7 @@ swap_remove-requires g c =
     let same : slice_index s.at.items c.args.id ≡ w.0 = w.4 in
     omega (arith, s.ids.ok.0)
 
--- what remains where the last one took the position
+-- what remains if the last id took the position
 remaining : (v : IdList) (ids at ys : List ℕ) (id p n m : ℕ) → AreStored ids at → (λ (w : IdList). w) (record { ids = ids; bound = length at }) ≡ v
     → is_id_in id v.ids ≡ true → p ≡ slice_index_or at id p → n ≡ length ids → m ≡ length ys → m + 1 ≡ n
     → ((d : ℕ) → p + 1 < n → slice_index_or ys p d ≡ slice_index_or ids (n - 1) d)
