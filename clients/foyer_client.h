@@ -15,7 +15,7 @@
 
 typedef struct foyer_cache foyer_cache;
 
-/* What a call is answered: the program's codes, 65 to 77 for its errors, and two of this client. */
+/* The codes that calls give: those of foyerpipe, of which 65 to 77 are errors, and two of this client. */
 enum {
     FOYER_DONE = 0,
     FOYER_ENTRY = 1,
@@ -38,18 +38,21 @@ enum {
     FOYER_CLOSED = 75,
     FOYER_UNSUPPORTED = 76,
     FOYER_SEQUENCE_END = 77,
-    FOYER_ENDED = 256,    /* the program ended, or its answer is none: every later call answers this too */
-    FOYER_NO_MEMORY = 257 /* this process has no memory for the value, which is lost: ask again */
+    /* The program ended or sent no valid reply, and every later call gives this, too. Or a key or a value has more than 2^32 - 1 bytes. */
+    FOYER_ENDED = 256,
+    FOYER_NO_MEMORY = 257 /* this process has no memory for the value: get it again */
 };
 
-/* A key, or a value. One that a call gives is the caller's to free; an empty one has bytes too. */
+/* A value that a call gives. The caller frees `bytes`, which isn't NULL even if `len` is 0. A zero byte follows the value. */
 typedef struct {
     char *bytes;
     size_t len;
 } foyer_value;
 
-/* Starts the program over a directory, or memory for ":memory:"; the sizes in bytes, as decimal digits; settings as "flushers=2", the last
- * one NULL, or NULL for none. It is open when this returns. NULL if it couldn't be started or ended, which it says on standard error. */
+/* Starts the program over a directory, or over memory for ":memory:". The sizes are bytes in decimal digits. Settings are words such as
+ * "flushers=2", at most 32, with NULL after the last, or NULL for none. The cache is open when this returns. Gives NULL if memory is refused,
+ * there are too many settings, the program couldn't be started, or it ended. A program that can't open the cache says why on standard
+ * error. */
 foyer_cache *foyer_open(const char *program, const char *directory, const char *capacity, const char *block, const char *const *settings);
 
 int foyer_put(foyer_cache *cache, const void *key, size_t key_len, const void *value, size_t value_len);
@@ -62,11 +65,12 @@ int foyer_destroy(foyer_cache *cache);
 /* What the cache did, a line "name number" each. */
 int foyer_counters(foyer_cache *cache, foyer_value *lines);
 
-/* Gets many keys, asked for at once: codes[i] and, for FOYER_ENTRY, values[i]. FOYER_DONE, or FOYER_ENDED: then that is the code of each key
- * that wasn't answered. */
+/* Gets many keys without waiting between them. Sets codes[i] and, if it is FOYER_ENTRY, values[i]. Gives FOYER_DONE, or FOYER_ENDED if that
+ * is the code of a key. */
 int foyer_get_many(foyer_cache *cache, size_t count, const void *const *keys, const size_t *key_lens, int *codes, foyer_value *values);
 
-/* Ends the program, which writes what is queued first, and frees the cache: its exit status, 0 if all went well, or -1. */
+/* Ends the program, which first writes what is queued, and frees the cache. No other call may be under way or follow. Gives the exit
+ * status, 0 if all went well, or -1 if there is none. */
 int foyer_close(foyer_cache *cache);
 
 #endif

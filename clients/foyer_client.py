@@ -34,7 +34,7 @@ class CacheError(Exception):
 
 
 class CacheEnded(CacheError):
-    """The program ended, or never began: the text is what it said, and its status."""
+    """The program has ended, perhaps because it couldn't open the cache. The text has its status and what it said."""
 
 
 class Throttled(CacheError):
@@ -53,9 +53,9 @@ class Cache:
         self._waiting, self._number, self._ended = {}, 0, None
         self._reader = threading.Thread(target=self._read, daemon=True)
         self._reader.start()
-        self._call(b"h", b"")  # it is open, or says why not
+        self._call(b"h", b"")  # waits until the cache is open; raises CacheEnded if it can't be opened
 
-    # What comes back, handed to whoever asked.
+    # Reads replies, and gives each to the call that waits for it.
     def _read(self):
         stream, buffer = self._program.stdout, bytearray()
         while True:
@@ -96,7 +96,7 @@ class Cache:
 
     def _send(self, kind, key=b"", value=b""):
         future = Future()
-        future.set_running_or_notify_cancel()  # a reply comes, also for a task that is cancelled
+        future.set_running_or_notify_cancel()  # a reply arrives even if the task was cancelled
         with self._sending:
             with self._known:
                 if self._ended:
@@ -109,7 +109,7 @@ class Cache:
                 while view:
                     view = view[self._program.stdin.write(view):]
             except (OSError, ValueError):
-                pass  # the reader learns of the end, and tells it
+                pass  # the reader notices the end, and ends all waiting calls
         return future
 
     def _call(self, kind, key=b"", value=b""):
@@ -131,7 +131,7 @@ class Cache:
         return self._call(b"p", key, value)[0] == DONE
 
     def put_many(self, pairs):
-        """Puts many, without waiting between them: for each whether it is taken."""
+        """Puts many pairs without waiting between them. Gives for each whether it is taken."""
         return [self._taken(it)[0] == DONE for it in [self._send(b"p", key, value) for key, value in pairs]]
 
     def get(self, key):
@@ -140,12 +140,12 @@ class Cache:
         return found if code == ENTRY else None
 
     def get_many(self, keys):
-        """The values under many keys, asked for at once."""
+        """The values under many keys, or None for each that is missing, without waiting between them."""
         taken = [self._taken(it) for it in [self._send(b"g", key) for key in keys]]
         return [found if code == ENTRY else None for code, found in taken]
 
     def get_or(self, key, make):
-        """The value under a key; if there is none, or it can't be read, what `make(key)` gives, which is put."""
+        """The value under a key. If there is none, or the get is refused or held back, puts what `make(key)` gives, and returns it."""
         try:
             found = self.get(key)
         except CacheEnded:
@@ -162,11 +162,11 @@ class Cache:
         return self._call(b"h", key)[0] == YES
 
     def delete(self, key):
-        """Deletes a key."""
+        """Deletes a key. A value that isn't written yet is answered until it is written."""
         self._call(b"d", key)
 
     def wait(self):
-        """Waits until all that was put before is written, or given up after a failed write."""
+        """Waits until all that was put before is written or given up, and no reclaim runs."""
         self._call(b"w")
 
     def counters(self):
@@ -179,7 +179,7 @@ class Cache:
         self._call(b"x")
 
     def close(self):
-        """Ends the program, which writes what is queued first: its status, 0 if all went well."""
+        """Ends the program, which first writes what is queued. Gives its status, 0 if all went well."""
         with self._sending:
             self._program.stdin.close()
         self._reader.join()
@@ -195,12 +195,12 @@ class Cache:
 
 
 class AsyncCache:
-    """The same cache for asyncio, its calls awaited: `async with AsyncCache(program, directory, capacity) as cache`. Any number may be
-    under way at once; what one task asks for one after the other keeps its order."""
+    """The calls of Cache for asyncio, except get_many and put_many: `async with AsyncCache(program, directory, capacity) as cache`. Any
+    number may be under way at once. Calls that one task makes one after the other keep their order."""
 
     def __init__(self, *words, **options):
         self._open = functools.partial(Cache, *words, **options)
-        self._thread = ThreadPoolExecutor(1)  # a pipe that is full would hold the loop
+        self._thread = ThreadPoolExecutor(1)  # writing to a full pipe would block the loop
 
     async def _run(self, call, *words):
         return await asyncio.get_running_loop().run_in_executor(self._thread, call, *words)
