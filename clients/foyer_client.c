@@ -17,6 +17,9 @@ enum { HEAD_LEN = 13, REPLY_LEN = 9, MOST_SETTINGS = 32, MOST_AT_ONCE = 256 };
 /* What one call may ask for before a reply is read: less than a pipe holds, so that neither side waits for the other for ever. */
 static const size_t AHEAD = 32 * 1024;
 
+/* The most bytes of a key and of a value that the program takes unless a setting says otherwise. */
+static const size_t KEY_LIMIT = 65536, VALUE_LIMIT = 67108864;
+
 /* A request whose reply is awaited, in the memory of the thread that asked. */
 struct asked {
     uint32_t number;
@@ -34,6 +37,7 @@ struct foyer_cache {
     struct asked *awaited; /* this and what follows is looked at under `known` */
     int is_reading, has_ended;
     uint32_t number;
+    size_t key_limit, value_limit; /* what the program takes in a frame: it ends after a longer one */
     pid_t program;
     int to, from;
 };
@@ -109,19 +113,29 @@ static void release_signal(const held_signal *held) {
     pthread_sigmask(SIG_SETMASK, &held->mask, NULL);
 }
 
-/* Sends a request, and awaits its reply in `own`. Its caller has the lock of sending. */
+/* The code of a request whose key is longer than any that the program takes, so that the cache can't have it. */
+static int code_of_long_key(char kind) {
+    switch (kind) {
+    case 'p': return FOYER_DELETED;
+    case 'g': return FOYER_MISS;
+    case 'h': return FOYER_NO;
+    default: return FOYER_DONE;
+    }
+}
+
+/* Sends a request, and awaits its reply in `own`. Its caller has the lock of sending. A request with a key that is too long isn't sent. */
 static void send_request(foyer_cache *cache, struct asked *own, char kind, const void *key, size_t key_len, const void *value, size_t value_len) {
     unsigned char head[HEAD_LEN];
     held_signal held;
     pthread_mutex_lock(&cache->known);
-    int failed = cache->has_ended || key_len > UINT32_MAX || value_len > UINT32_MAX;
+    int failed = cache->has_ended, is_sent = !failed && key_len <= cache->key_limit;
     own->number = ++cache->number;
-    own->state = failed ? DONE : AWAITED;
-    own->code = FOYER_ENDED;
+    own->state = is_sent ? AWAITED : DONE;
+    own->code = failed || is_sent ? FOYER_ENDED : code_of_long_key(kind);
     own->next = cache->awaited;
-    if (!failed) cache->awaited = own;
+    if (is_sent) cache->awaited = own;
     pthread_mutex_unlock(&cache->known);
-    if (failed) return;
+    if (!is_sent) return;
     head[0] = (unsigned char)kind;
     put_number(head + 1, own->number);
     put_number(head + 5, (uint32_t)key_len);
@@ -211,6 +225,10 @@ static int call(foyer_cache *cache, char kind, const void *key, size_t key_len, 
 }
 
 int foyer_put(foyer_cache *cache, const void *key, size_t key_len, const void *value, size_t value_len) {
+    if (value_len > cache->value_limit) {
+        int code = foyer_delete(cache, key, key_len);
+        return code == FOYER_DONE ? FOYER_DELETED : code;
+    }
     return call(cache, 'p', key, key_len, value, value_len, NULL);
 }
 
@@ -305,15 +323,26 @@ static int start(foyer_cache *cache, const char *const *words) {
     return -1;
 }
 
+/* The number of the last setting NAME=NUMBER, or `usual` if there is none. */
+static size_t number_of(const char *name, const char *const *settings, size_t usual) {
+    size_t len = strlen(name);
+    for (; settings != NULL && *settings != NULL; settings++) {
+        if (strncmp(*settings, name, len) == 0 && (*settings)[len] == '=') usual = (size_t)strtoull(*settings + len + 1, NULL, 10);
+    }
+    return usual;
+}
+
 foyer_cache *foyer_open(const char *program, const char *directory, const char *capacity, const char *block, const char *const *settings) {
     const char *words[5 + MOST_SETTINGS] = {program, directory, capacity, block};
     int count = 4;
-    for (; settings != NULL && *settings != NULL; settings++) {
+    for (const char *const *setting = settings; setting != NULL && *setting != NULL; setting++) {
         if (count == 4 + MOST_SETTINGS) return NULL;
-        words[count++] = *settings;
+        words[count++] = *setting;
     }
     foyer_cache *cache = calloc(1, sizeof *cache);
     if (cache == NULL) return NULL;
+    cache->key_limit = number_of("key", settings, KEY_LIMIT);
+    cache->value_limit = number_of("value", settings, VALUE_LIMIT);
     pthread_mutex_lock(&opening);
     int failed = start(cache, words);
     pthread_mutex_unlock(&opening);

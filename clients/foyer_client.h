@@ -21,7 +21,7 @@ enum {
     FOYER_ENTRY = 1,
     FOYER_MISS = 2,
     FOYER_IGNORED = 3,
-    FOYER_DELETED = 4,   /* a put that isn't taken: its key is deleted */
+    FOYER_DELETED = 4,   /* a put that isn't taken, since too much is queued or its value or key is too long: its key is deleted */
     FOYER_THROTTLED = 5, /* a limit of reads holds the get back */
     FOYER_YES = 6,
     FOYER_NO = 7,
@@ -38,8 +38,7 @@ enum {
     FOYER_CLOSED = 75,
     FOYER_UNSUPPORTED = 76,
     FOYER_SEQUENCE_END = 77,
-    /* The program ended or sent no valid reply, and every later call gives this, too. Or a key or a value has more than 2^32 - 1 bytes. */
-    FOYER_ENDED = 256,
+    FOYER_ENDED = 256,    /* the program ended or sent no valid reply, and every later call gives this, too */
     FOYER_NO_MEMORY = 257 /* this process has no memory for the value: get it again */
 };
 
@@ -55,6 +54,7 @@ typedef struct {
  * error. */
 foyer_cache *foyer_open(const char *program, const char *directory, const char *capacity, const char *block, const char *const *settings);
 
+/* A key longer than the setting key=N is never in the cache, and a value longer than value=N never taken: such frames aren't sent. */
 int foyer_put(foyer_cache *cache, const void *key, size_t key_len, const void *value, size_t value_len);
 int foyer_get(foyer_cache *cache, const void *key, size_t key_len, foyer_value *value);
 int foyer_delete(foyer_cache *cache, const void *key, size_t key_len);

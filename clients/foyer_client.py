@@ -21,6 +21,8 @@ ERRORS = dict(enumerate("Io Memory Config Parse MagicMismatch ChecksumMismatch O
                         "Unsupported SequenceEnd".split(), 65))
 FAULTS = dict(enumerate("a short frame,an unknown kind,a key that is too long,a value that is too long,a key that isn't asked for,"
                         "a value that isn't asked for".split(","), 128))
+LIMITS = {"key": 65536, "value": 67108864}  # what the program takes in a frame, unless an option says otherwise
+LONG_KEY = {b"p": DELETED, b"g": MISS, b"h": NO, b"d": DONE}  # what a key is answered that is too long for any frame
 REQUEST = struct.Struct("<cIII")
 REPLY = struct.Struct("<IBI")
 
@@ -41,10 +43,21 @@ class Throttled(CacheError):
     """A limit of reads holds the get back."""
 
 
+# Answers a put by what a delete of its key was answered.
+def _give_deleted(future, deleted):
+    if deleted.exception():
+        future.set_exception(deleted.exception())
+    else:
+        code, found = deleted.result()
+        future.set_result((DELETED if code == DONE else code, found))
+
+
 class Cache:
-    """A cache in a directory, or in memory for the directory `:memory:`. Options are those of the program: flushers=2, log=1, .."""
+    """A cache in a directory, or in memory for the directory `:memory:`. Options are those of the program: flushers=2, log=1, ..
+    A key that is longer than the option key=N is never in the cache, and a value that is longer than value=N is never taken."""
 
     def __init__(self, program, directory, capacity, block_size=1 << 24, **options):
+        self._limits = {name: int(options.get(name, usual)) for name, usual in LIMITS.items()}
         words = [program, directory, str(capacity), str(block_size)] + ["%s=%s" % it for it in options.items()]
         self._errors = tempfile.TemporaryFile()
         self._program = subprocess.Popen(words, stdin=subprocess.PIPE, stdout=subprocess.PIPE, stderr=self._errors, bufsize=0)
@@ -97,10 +110,17 @@ class Cache:
     def _send(self, kind, key=b"", value=b""):
         future = Future()
         future.set_running_or_notify_cancel()  # a reply arrives even if the task was cancelled
+        if len(value) > self._limits["value"]:
+            # in place of the put its key is deleted, and answered so
+            self._send(b"d", key).add_done_callback(functools.partial(_give_deleted, future))
+            return future
         with self._sending:
             with self._known:
                 if self._ended:
                     raise self._ended
+                if len(key) > self._limits["key"]:
+                    future.set_result((LONG_KEY[kind], b""))
+                    return future
                 self._number = number = (self._number + 1) % (1 << 32) or 1
                 self._waiting[number] = future
             frame = REQUEST.pack(kind, number, len(key), len(value)) + key + value
@@ -127,7 +147,8 @@ class Cache:
         return code, found
 
     def put(self, key, value):
-        """Puts a value. False if it isn't taken, since too much is queued or a limit holds it back: then its key is deleted."""
+        """Puts a value. False if it isn't taken, since it is too long, too much is queued or a limit holds it back: then its key is
+        deleted."""
         return self._call(b"p", key, value)[0] == DONE
 
     def put_many(self, pairs):
@@ -162,7 +183,7 @@ class Cache:
         return self._call(b"h", key)[0] == YES
 
     def delete(self, key):
-        """Deletes a key. A value that isn't written yet is answered until it is written."""
+        """Deletes a key. A value that is queued is answered until it is written or given up."""
         self._call(b"d", key)
 
     def wait(self):

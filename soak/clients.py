@@ -3,7 +3,7 @@
 
 The C client is built with all warnings as errors, and its example with sanitizers, and run under valgrind if that is there. The cases: round
 trips of random bytes; thousands of gets at once; a reopening, with and without a log of deletes; a device that is full; limits; threads
-that share a cache; two caches of one process; bad words; a killed program; a killed caller. Ends with status 0 when all held.
+that share a cache; two caches of one process; keys and values that are too long; bad words; a killed program; a killed caller. Ends with status 0 when all held.
 
 usage: clients.py [--program FILE] [--seed N]
 """
@@ -257,6 +257,25 @@ def bad_words(opened, rnd, room):
     check(refused(CacheEnded, lambda: opened(":memory:", 1, 1 << 20)), "a capacity of 1 opens")
 
 
+def too_long(opened, rnd, room):
+    key, long_key, value = b"k" * 10, b"k" * 11, b"v" * 1000
+    with opened(":memory:", 1 << 26, 1 << 20, key=10, value=1000) as cache:
+        check(cache.put(key, value) and cache.get(key) == value, "a pair at the limits isn't taken")
+        check(not cache.put(long_key, value) and cache.get(long_key) is None, "a key that is too long is there")
+        cache.delete(long_key)
+        check(not cache.contains(long_key) and cache.get_many([long_key, key, long_key]) == [None, value, None], "a long key is found")
+        cache.wait()
+        check(not cache.put(key, value + b"v") and cache.get(key) is None, "an older value stays when a put is too long")
+        check(not cache.put(long_key, value + b"v"), "what is too long is taken")
+        check(cache.counters()["deletes"] == 1 and cache.put(key, value) and cache.get(key) == value, "the cache doesn't go on")
+        if opened.kind == "Python":
+            check(cache.get_or(long_key, lambda it: value + it) == value + long_key, "get_or doesn't give what is too long")
+            check(cache.put_many([(key, value + b"v"), (long_key, value), (key, value)]) == [False, False, True], "put_many differs")
+    with opened(":memory:", 1 << 26, 1 << 20) as cache:
+        check(not cache.put(b"k" * 65537, b"v") and not cache.put(b"k", b"v" * 67108865), "what is too long by default is taken")
+        check(cache.put(b"k" * 65536, b"v") and cache.get(b"k" * 65536) == b"v", "a key at the limit isn't taken")
+
+
 def tasks_share(opened, rnd, room):
     if opened.kind != "Python":
         return
@@ -344,7 +363,7 @@ def put_on(kind, program, place, library):
 
 
 CASES = [
-    round_trips, thousands_at_once, reopenings, full_device, limits, threads_share, tasks_share, two_caches, bad_words, killed_program,
+    round_trips, thousands_at_once, reopenings, full_device, limits, threads_share, tasks_share, two_caches, too_long, bad_words, killed_program,
     killed_caller,
 ]
 
