@@ -7,6 +7,7 @@ mod configs;
 mod counted;
 mod counts;
 mod dials;
+mod duels;
 mod faults;
 mod gates;
 mod limits;

@@ -2,6 +2,7 @@
 //! the key 2^64 + 1.
 use crate::tests::counted::say_counts;
 use crate::tests::dials::Dial;
+use crate::tests::duels::{duel, settles};
 use crate::tests::gates::HoldingGate;
 use foyer_device_page::error::{Error, Result};
 use foyer_format_record::serde::{HashBuilder, NoProperties};
@@ -283,6 +284,8 @@ fn say_line<S: CallerSession, N: Engine<S, u128, String, NoProperties>>(
         "destroy" => say_done(said, store.destroy(rt, session)),
         "close" => say_done(said, store.close(rt, session)),
         "seen" => say_whether(said, is_seen(rt, store, session, key)),
+        "duel" => say_whether(said, duel(rt, alloc, store, session, key, text)),
+        "settles" => say_whether(said, settles(rt, alloc, store, session, key, text)),
         _ => say_store(rt, store, beside, &*session, said, word, first),
     }
 }

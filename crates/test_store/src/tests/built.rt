@@ -74,7 +74,8 @@ fn take(said: &mut Said, other: Said) {
     }
 }
 
-// The answers to a script; behind an ampersand comes one that another thread asks meanwhile, and its answers.
+// The answers to a script; behind an ampersand comes one that another thread asks meanwhile, and its answers. What stands behind `then:` is
+// asked after both.
 fn answers_of_both<S, N, R>(
     rt: &R,
     alloc: Global,
@@ -88,6 +89,7 @@ where
     N: Engine<S, u128, String, NoProperties> + Send + Sync,
     R: Threads + Wait + Sync,
 {
+    let (script, then) = script.split_once(" then: ").unwrap_or((script, ""));
     let (own, others) = script.split_once(" & ").unwrap_or((script, ""));
     if others.is_empty() || session.parts() < 2 {
         return answers_to(rt, alloc, store, beside, session, own);
@@ -99,6 +101,11 @@ where
     session.join(other);
     said.word(" & ");
     take(&mut said, more);
+    if !then.is_empty() {
+        said.word(" then: ");
+        let more = answers_to(rt, alloc, store, beside, session, then);
+        take(&mut said, more);
+    }
     said
 }
 

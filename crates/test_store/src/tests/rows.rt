@@ -14,9 +14,9 @@ use std::thread::Threads;
 
 // Each row is what is asked, and behind a bar what is answered; a name stands above those of a case. Slashes part stores that are
 // built one after the other over one memory, each with what it is built over before its script. `force` puts what a filter
-// would reject; `fill` puts a text of so many bytes; `tally` is how many pieces were queued and dropped, hashes deleted, reads
-// begun, look-ups missed, entries found and reads missed; `counts` is what the store counted. All is asked at the moment at
-// which the store was built, until `at` says another.
+// would reject; `fill` puts a text of so many bytes; `duel` puts texts while another thread does, and `settles` is asked after both;
+// `tally` is how many pieces were queued and dropped, hashes deleted, reads begun, look-ups missed, entries found and reads missed;
+// `counts` is what the store counted. All is asked at the moment at which the store was built, until `at` says another.
 
 const CALLS: &str = "of two keys with one hash the newest is found
 force 1 foo, force 1+ bar, wait, get 1, get 1+ | queued, queued, ok, miss, entry bar
@@ -79,6 +79,9 @@ no wait lasts once the threads are joined: a destroy that something queued is in
 put 1 a, wait left: put 2 b, wait, destroy, get 1, get 2 | queued, ok left: queued, ok, fault Closed, entry a, piece b
 two threads load, each through an I/O engine of its own
 loads 2 < put 1 a, put 2 b, wait, seen 2, get 1, get 2 & seen 1, seen 2, get 1, get 2 | queued, queued, ok, yes, entry a, entry b & yes, yes, entry a, entry b
+two threads put one key: neither loads anything older than it put or loaded before, and one's last put stays, in memory as on the device
+duel 1 2000 a & duel 1 2000 b then: settles 1 a1999 b1999 | yes & yes then: yes
+naps, flushers 2 < duel 1 200 a & duel 1 200 b then: settles 1 a199 b199 | yes & yes then: yes
 ";
 
 // If fewer than `clean` blocks are clean, a reclaim begins of its own. With 0 a reclaim begins only for a flusher that waits. In the other
