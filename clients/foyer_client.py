@@ -122,8 +122,11 @@ class Cache:
                     future.set_result((LONG_KEY[kind], b""))
                     return future
                 self._number = number = (self._number + 1) % (1 << 32) or 1
+            frame = b"".join((REQUEST.pack(kind, number, len(key), len(value)), key, value))
+            with self._known:
+                if self._ended:
+                    raise self._ended
                 self._waiting[number] = future
-            frame = REQUEST.pack(kind, number, len(key), len(value)) + key + value
             try:
                 view = memoryview(frame)
                 while view:

@@ -1,9 +1,11 @@
 #!/usr/bin/env python3
-"""Asks foyerpipe through its clients in Python and in C, each by the same cases, without threads for gets and with two, and runs the examples of docs/PIPE.md and of examples/.
+"""Asks foyerpipe through its clients in Python and in C, each by the same cases, without threads for gets and with two, and runs the
+examples of docs/PIPE.md and of examples/.
 
-The C client is built with all warnings as errors, and its example with sanitizers, and run under valgrind if that is there. The cases: round
-trips of random bytes; thousands of gets at once; a reopening, with and without a log of deletes; a device that is full; limits; threads
-that share a cache; two caches of one process; keys and values that are too long; bad words; a killed program; a killed caller. Ends with status 0 when all held.
+The C client is built with all warnings as errors, and its example with sanitizers, and run under valgrind if that is there. The cases:
+round trips of random bytes; thousands of gets at once; a reopening, with and without a log of deletes; a device that is full; limits;
+threads that share a cache; two caches of one process; keys and values that are too long; bad words; a killed program; a killed caller.
+Ends with status 0 if all held.
 
 usage: clients.py [--program FILE] [--seed N]
 """
@@ -269,6 +271,9 @@ def too_long(opened, rnd, room):
         check(not cache.put(long_key, value + b"v"), "what is too long is taken")
         check(cache.counters()["deletes"] == 1 and cache.put(key, value) and cache.get(key) == value, "the cache doesn't go on")
         if opened.kind == "Python":
+            put = cache.put(bytearray(b"any"), memoryview(b"bytes"))
+            check(put and cache.get(memoryview(b"any")) == b"bytes", "what is like bytes differs")
+            check(all(refused(TypeError, lambda: cache.get(it)) for it in ("text", None, 7)), "a key that isn't bytes is taken")
             check(cache.get_or(long_key, lambda it: value + it) == value + long_key, "get_or doesn't give what is too long")
             check(cache.put_many([(key, value + b"v"), (long_key, value), (key, value)]) == [False, False, True], "put_many differs")
     with opened(":memory:", 1 << 26, 1 << 20) as cache:
@@ -363,8 +368,8 @@ def put_on(kind, program, place, library):
 
 
 CASES = [
-    round_trips, thousands_at_once, reopenings, full_device, limits, threads_share, tasks_share, two_caches, too_long, bad_words, killed_program,
-    killed_caller,
+    round_trips, thousands_at_once, reopenings, full_device, limits, threads_share, tasks_share, two_caches, too_long, bad_words,
+    killed_program, killed_caller,
 ]
 
 
