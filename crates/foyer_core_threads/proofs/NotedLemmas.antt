@@ -64,8 +64,8 @@ some_left (Some x) P is holds = holds
 module _ {K V P A : Type 0} where
   -- a step that moves nothing, by what it is or by its reply
   pub noted_none : (old : Noted) (done : Moving) (answer : Reply K V P A) → ((F f : ℕ) → queued_by F f done answer ≡ 0) → ((f : ℕ) → returned_by f done answer ≡ 0) → ((f n : ℕ) → passed_by f done answer n ≡ n)
-      → ((hash sequence : ℕ) → done ≡ moving.Queues hash → answer ≡ replies.Queued sequence → ⊥) → HasNoted done answer old old
-  noted_none old done answer queued returned passed never = record {
+      → ((hash sequence : ℕ) → done ≡ moving.Queues hash → answer ≡ replies.Queued sequence → ⊥) → ((f : ℕ) → EndsBatch f done answer → ⊥) → HasNoted done answer old old
+  noted_none old done answer queued returned passed never endless = record {
     kept = λ ok. ok;
     keeps = λ ok can. ok;
     flushers = refl;
@@ -73,6 +73,7 @@ module _ {K V P A : Type 0} where
     returned = λ ok f. none_added (slice_index old.returned f) ∙ ap (λ n. slice_index old.returned f + n) (sym (returned f));
     passed = λ ok f. sym (passed f (slice_index old.passed f));
     left = λ ok f. inl refl;
+    reached = λ ok f ends. absurd (endless f ends);
     classes = refl;
     last = λ ok r. omega arith;
     placed = λ ok hash sequence is_hash is_queued. absurd (never hash sequence is_hash is_queued);
@@ -269,4 +270,4 @@ module _ {K V P A D : Type 0} (m : Meaning K V P) (byte_at : D → ℕ → ℕ �
 
 -- a look-up moves nothing
 pub noted_other : {K V P A : Type 0} (noted : Noted) (answer : Reply K V P A) → HasNoted moving.Other answer noted noted
-noted_other noted answer = noted_none noted moving.Other answer (λ F f. refl) (λ f. refl) (λ f n. refl) (λ hash sequence same queued. cc)
+noted_other noted answer = noted_none noted moving.Other answer (λ F f. refl) (λ f. refl) (λ f n. refl) (λ hash sequence same queued. cc) (λ f ends. ends)

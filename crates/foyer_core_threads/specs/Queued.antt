@@ -69,6 +69,7 @@ pub record HasNoted {K V P A : Type 0} (done : Moving) (answer : Reply K V P A) 
   pub passed : new.is_lost ≡ false → (f : ℕ) → slice_index new.passed f ≡ passed_by f done answer (slice_index old.passed f)
   pub left : new.is_lost ≡ false → (f : ℕ) → (slice_index new.left f ≡ slice_index old.left f)
       ⊎ (EndsBatch f done answer × (slice_index new.left f + slice_index new.passed f ≤ slice_index new.returned f))
+  pub reached : new.is_lost ≡ false → (f : ℕ) → EndsBatch f done answer → slice_index new.returned f ≤ slice_index new.left f + slice_index new.passed f
   pub classes : length new.last ≡ length old.last
   pub last : new.is_lost ≡ false → (r : ℕ) → slice_index old.last r ≤ slice_index new.last r
   pub placed : new.is_lost ≡ false → (hash sequence : ℕ) → done ≡ moving.Queues hash → answer ≡ replies.Queued sequence

@@ -253,6 +253,7 @@ impl<A: Allocator> QueuedPlaces<A> {
         ensures returned { self.new.is_lost ≡ false → (r : ℕ) → slice_index self.new.returned r ≡ slice_index self.old.returned r + (if flusher == r then pieces else 0) }
         ensures left { self.new.is_lost ≡ false → (r : ℕ) → (slice_index self.new.left r ≡ slice_index self.old.left r)
             ⊎ ((flusher ≡ r) × (slice_index self.new.left r + slice_index self.new.passed r ≤ slice_index self.new.returned r)) }
+        ensures reached { self.new.is_lost ≡ false → (r : ℕ) → flusher ≡ r → slice_index self.new.returned r ≤ slice_index self.new.left r + slice_index self.new.passed r }
         ensures keeps { self.old.is_lost ≡ false → FitsEnded flusher pieces self.old → self.new.is_lost ≡ false }
     {
         if !raise(&mut self.returned, flusher, pieces) {
