@@ -3,3 +3,4 @@ pub mod LocalAnswers
 pub mod LoadAnswered
 pub mod RefusedSteps
 pub mod ThrottledLoads
+pub mod CloseLemmas

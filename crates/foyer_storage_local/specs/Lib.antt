@@ -1,3 +1,4 @@
 pub mod EntryLoads
 pub mod StepAnswers
 pub mod EntryCalls
+pub mod Closing

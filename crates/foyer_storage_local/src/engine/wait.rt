@@ -3,7 +3,8 @@ ghost use Rattle.std.specs.Prelude.{◌≡◌, ◌≤◌, ℕ, true, IfErr, IfOk
 ghost use Rattle.foyer_core_laws.specs.Content.{meaning};
 ghost use Rattle.foyer_core_run.specs.AtRest.{ComesToRest, IsAtRest, KeepsIdle, KeepsOthers, KeepsOthersIdle, Leads, LeavesAllIdle, LeavesIdle, TakesQueueIf, Without};
 ghost use Rattle.foyer_core_run.specs.Causes.{DrivesForCause, HasCome};
-ghost use Rattle.foyer_core_run.specs.Waiting.{AllSteps, Closes, IsClosing, IsWaiting, Waits};
+ghost use Rattle.foyer_core_run.specs.Waiting.{AllSteps, Closes, DrivesBy, IsClosing, IsWaiting, Waits};
+ghost use Rattle.foyer_storage_local.specs.Closing.{HasClosed};
 ghost use Rattle.foyer_storage_local.specs.EntryCalls.{KeepsLies, LeadsForCause};
 ghost use Rattle.foyer_storage_local.specs.StepAnswers.{is_wait_error};
 
@@ -92,6 +93,9 @@ where
         ensures closed { D.is_known self.old.disk → D.is_known self.new.disk × Closes
             (meaning K.encoding V.encoding K.is_encodable V.is_encodable K.is_decodable V.is_decodable P.age)
             self.old.core self.new.core (D.byte_at self.old.disk) (D.byte_at self.new.disk) }
+        ensures accepted { IfOk result (λ _. D.is_known self.old.disk → DrivesBy HasClosed
+            (meaning K.encoding V.encoding K.is_encodable V.is_encodable K.is_decodable V.is_decodable P.age)
+            self.old.core self.new.core (D.byte_at self.old.disk) (D.byte_at self.new.disk)) }
         ensures honest { D.is_known self.old.disk → DrivesForCause (HasCome D.surely_lies D.faults self.old.disk self.new.disk) IsClosing
             (meaning K.encoding V.encoding K.is_encodable V.is_encodable K.is_decodable V.is_decodable P.age)
             self.old.core self.new.core (D.byte_at self.old.disk) (D.byte_at self.new.disk) }

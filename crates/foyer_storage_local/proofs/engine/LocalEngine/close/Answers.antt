@@ -1,3 +1,4 @@
+use Rattle.std.proofs.Common.{sym, ◌∙◌}
 use Rattle.std.proofs.lemmas.Result.{IfOk-weaker}
 use Rattle.foyer_core_run.specs.AtRest.{LeavesAllIdle}
 use Rattle.foyer_core_steps.specs.declared.step.Step.TheVariants as step
@@ -6,6 +7,8 @@ use Rattle.foyer_core_run.specs.Causes.{HasCome}
 use Rattle.foyer_core_run.specs.Waiting.{IsClosing}
 use Rattle.foyer_core_run.proofs.CauseLemmas.{cause_drives}
 use Rattle.foyer_core_laws.specs.Content.{meaning}
+use Rattle.foyer_storage_local.specs.Closing.{HasClosed}
+use Rattle.foyer_storage_local.proofs.CloseLemmas.{close_done, closed_before}
 use Rattle.foyer_storage_local.proofs.LocalRuns.{close_alone, close_before}
 use Rattle.foyer_storage_local.proofs.engine.LocalEngine.close.Goals as goal
 
@@ -46,6 +49,18 @@ returns-clause-closed g c =
           (close_before m came c.args.self.now.core c.step-closed.new.core c.flush_queued.new.self.core bytes bytes after
           (close_alone m came c.step-closed.result c.args.self.now.core c.step-closed.new.core bytes c.step-closed.ensures.meets) waited.1),
     )
+
+pub returns-clause-accepted : goal.returns-clause-accepted
+returns-clause-accepted g c =
+    let m = meaning g.K.Code.encoding g.V.Code.encoding g.K.Code.is_encodable g.V.Code.is_encodable g.K.Code.is_decodable g.V.Code.is_decodable g.P.Properties.age in
+    let came = HasCome g.D.Disk.surely_lies g.D.Disk.faults c.args.self.now.disk c.flush_queued.new.self.disk in
+    let bytes = g.D.Disk.byte_at c.args.self.now.disk in
+    let after = g.D.Disk.byte_at c.flush_queued.new.self.disk in
+    IfOk-weaker c.flush_queued.result _ _ (λ flushed led. λ known.
+    cause_drives m came HasClosed c.args.self.now.core c.flush_queued.new.self.core bytes after
+    (closed_before m came c.args.self.now.core c.step-closed.new.core c.flush_queued.new.self.core bytes bytes after
+    (close_done m came c.step-closed.result c.in_ok-answer_step.field-0 c.args.self.now.core c.step-closed.new.core bytes (sym c.answer_step.ensures.says ∙ c.in_ok-answer_step.was) c.step-closed.ensures.meets)
+    ((c.flush_queued.ensures.waited).1 known).1)) c.flush_queued.ensures.leads
 
 pub returns-clause-rest : goal.returns-clause-rest
 returns-clause-rest g c =
