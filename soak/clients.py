@@ -259,6 +259,18 @@ def bad_words(opened, rnd, room):
     check(refused(CacheEnded, lambda: opened(":memory:", 1, 1 << 20)), "a capacity of 1 opens")
 
 
+def one_holder(opened, rnd, room):
+    place, room_for = room + "/held", 1 << 28
+    cache = opened(place, room_for, cores=2, log=1)
+    check(cache.put(b"k", b"v"), "a put into a directory isn't taken")
+    check(refused(CacheEnded, lambda: opened(place, room_for, cores=2, log=1)), "a second program has the directory, too")
+    check(cache.get(b"k") == b"v" and cache.close() == 0, "the directory's program doesn't go on")
+    for other in ({"log": 1}, {"cores": 4, "log": 1}, {"cores": 2}, {"block": 1 << 23, "cores": 2, "log": 1}):
+        check(refused(CacheEnded, lambda: opened(place, room_for, **other)), "%r opens a directory that was made otherwise" % other)
+    with opened(place, room_for, cores=2, log=1, flushers=2) as cache:
+        check(cache.get(b"k") == b"v", "what was put is gone after refused openings")
+
+
 def too_long(opened, rnd, room):
     key, long_key, value = b"k" * 10, b"k" * 11, b"v" * 1000
     with opened(":memory:", 1 << 26, 1 << 20, key=10, value=1000) as cache:
@@ -368,7 +380,7 @@ def put_on(kind, program, place, library):
 
 
 CASES = [
-    round_trips, thousands_at_once, reopenings, full_device, limits, threads_share, tasks_share, two_caches, too_long, bad_words,
+    round_trips, thousands_at_once, reopenings, full_device, limits, threads_share, tasks_share, two_caches, one_holder, too_long, bad_words,
     killed_program, killed_caller,
 ]
 

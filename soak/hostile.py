@@ -9,12 +9,12 @@ It prints one line a check, and ends with status 0 when all held, 1 for a wrong 
   or `fault Memory` is all. The program ends, with status 0, or 1 after a fault;
 - lines: one of 300 MB is a put that no block holds, another one a bad line, and where memory doesn't hold it `fault Memory`; the next
   one is read. NUL bytes are texts, and no numbers;
-- streams: an output that is broken or full, and an input that is closed, end the program with status 1; an output that is closed
-  from the start takes all, as in Rust: status 0. What was put before is written;
+- streams: an output that is broken, full or closed, and an input that is closed, end the program with status 1. What was put before is
+  written, and no file takes a closed stream's place;
 - handles: with any number of file handles a directory is opened, or `fault Io` is all, and what it has stays;
 - rights: a directory and files that may not be written are `fault Io`, and stay;
-- two programs over one directory, which is not supported and not detected: each answers for a key a text that was put under it by
-  one of them, whole, or `miss`; so does an opening afterwards.
+- a second program over a directory is refused, and changes nothing. If the lock's file is deleted, so that there are two programs, each
+  answers for a key a text that was put under it by one of them, whole, or `miss`; so does an opening afterwards.
 """
 
 import argparse
@@ -129,7 +129,7 @@ def check_lines(binary, top):
 
 def check_streams(binary, top):
     count = 0
-    for name in ("broken", "full", "closed", "unread"):
+    for name in ("broken", "full", "closed", "unread", "unsaid"):
         directory = os.path.join(top, name)
         words = [binary, directory, 8 * BLOCK, BLOCK]
         lines, how = b"put 1 a\nput 2 b\nget 1\n", {}
@@ -141,14 +141,18 @@ def check_streams(binary, top):
             how["stdout"] = os.open("/dev/full", os.O_WRONLY)
         elif name == "closed":
             how["preexec_fn"] = lambda: os.close(1)
-        else:
+        elif name == "unread":
             how["preexec_fn"] = lambda: os.close(0)
+        else:
+            how["preexec_fn"] = lambda: [os.close(it) for it in range(3)]
         _, _, status = run(words, lines, **how)
-        expect(f"a stream that is {name}: status", status, 0 if name == "closed" else 1)
+        expect(f"a stream that is {name}: status", status, 1)
+        with open(os.path.join(directory, "foyer.lock"), "rb") as file:
+            expect(f"a lock beside a stream that is {name}", file.read(), b"block=%d cores=1 log=0\n" % BLOCK)
         if isinstance(how.get("stdout"), int):
             os.close(how["stdout"])
-        if name != "unread":
-            expect(f"behind a stream that is {name}", run(words, b"get 1\nget 2\n")[0], b"entry a\nentry b\n")
+        found = b"miss\nmiss\n" if name.startswith("un") else b"entry a\nentry b\n"
+        expect(f"behind a stream that is {name}", run(words, b"get 1\nget 2\n")[0], found)
         count += 1
     print(f"streams: {count} that are broken, full or closed; what was put before is written")
 
@@ -207,12 +211,38 @@ def check_rights(binary, top):
     print("rights: a directory and files that may not be written are refused, and stay")
 
 
+def check_second(binary, top):
+    directory = os.path.join(top, "second")
+    words = [binary, directory, 4 * BLOCK, BLOCK]
+    first = Program(binary, directory, 4 * BLOCK, BLOCK)
+    first.send(b"put 1 a\nwait\n")
+    expect("the first program", (first.answer(), first.answer()), (b"queued", b"ok"))
+    before = sums_of(directory)
+    output, errors, status = run(words, b"get 1\nput 1 b\n")
+    expect("a second program", (output, status), (b"fault Io\n", 1))
+    expect("why it is refused", errors, b"foyerdisk: " + directory.encode() + b": the directory is in use: Io\n")
+    expect("a directory after a second program", sums_of(directory), before)
+    first.send(b"get 1\n")
+    expect("the first program after a second", (first.answer(), first.end()), (b"entry a", 0))
+    killed = Program(binary, directory, 4 * BLOCK, BLOCK)
+    killed.send(b"get 1\n")
+    expect("a program that will be killed", killed.answer(), b"entry a")
+    killed.kill()
+    expect("after a kill", run(words, b"get 1\n")[0], b"entry a\n")
+    print("a second program over a directory is refused, and one after a kill isn't")
+
+
 def check_two(binary, top):
-    """Two programs over one directory: each asked by turns."""
+    """Two programs over one directory, of which the second doesn't see the lock: each asked by turns."""
     said = {"own": 0, "other": 0, "miss": 0}
     for number in range(40):
         directory = os.path.join(top, f"two-{number}")
-        both = [Program(binary, directory, 4 * BLOCK, BLOCK) for _ in range(2)]
+        both = []
+        for _ in range(2):
+            both.append(Program(binary, directory, 4 * BLOCK, BLOCK))
+            both[-1].send(b"get 0\n")
+            expect("the first answer of two programs", both[-1].answer(), b"miss")
+            os.unlink(os.path.join(directory, "foyer.lock"))
         texts, count = {}, 0
         for turn in range(60):
             program, key = both[turn % 2], turn * 7 % 5
@@ -251,7 +281,7 @@ def main():
         raise SystemExit(f"no program at {os.path.normpath(binary)}: ./foyerdisk :memory: 16384 16384 builds it")
     top = tempfile.mkdtemp(prefix="foyer-hostile-")
     try:
-        for check in (check_lines, check_streams, check_handles, check_rights, check_two, check_memory):
+        for check in (check_lines, check_streams, check_handles, check_rights, check_second, check_two, check_memory):
             check(binary, top)
     except (Wrong, inject.Late) as wrong:
         print(f"wrong: {wrong}", file=sys.stderr)

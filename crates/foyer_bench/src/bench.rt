@@ -7,13 +7,16 @@ ghost use Rattle.foyer_storage_cores_run.specs.CoreLedgers.{AreOfCores};
 ghost use Rattle.foyer_bench.specs.BenchWords.{AreBenchWords};
 ghost use Rattle.foyer_cli.specs.declared.options.Options.{Options};
 
-use crate::report::print;
+use crate::report::{Report, print};
 use crate::stores::{bench_directory, bench_memory};
 use crate::words::read_words;
 use foyer_bench_stats::plan::Plan;
 use foyer_bench_stats::settings::Refusal;
 use foyer_cli::options::{Options, ask_version, print_version};
 use foyer_core_tally::book::Kinds;
+use foyer_device_page::error::Result;
+use foyer_directory::lock::{DirectoryLock, PROGRAM_TRIES};
+use foyer_directory::shape::DirectoryShape;
 use foyer_storage_cores_run::build::cores::kinds::CoreBlanks;
 use std::alloc::{Allocator, Global};
 use std::fs::File;
@@ -54,13 +57,37 @@ where
     requires blanks { AreOfCores L.name_of L.all blanks × (L.all ≡ 2 ^ 32) }
     requires plan { HasBounds plan.now }
 {
-    let report = if options.is_memory() {
-        bench_memory::<L, T>(rt, alloc, blanks, options, plan)
-    } else {
-        bench_directory::<L, T>(rt, alloc, blanks, options, plan)
-    };
+    if options.is_memory() {
+        let report = bench_memory::<L, T>(rt, alloc, blanks, options, plan);
+        return print_report(plan, report, &mut output, &mut errors);
+    }
+    let shape = DirectoryShape::new(options.block_size, plan.cores, false);
+    match DirectoryLock::take_within(&rt, alloc, options.directory, &shape, PROGRAM_TRIES) {
+        Ok(lock) => {
+            let report = bench_directory::<L, T>(rt, alloc, blanks, options, plan);
+            if report.is_ok() {
+                drop(lock);
+            } else {
+                lock.forget();
+            }
+            print_report(plan, report, &mut output, &mut errors)
+        }
+        Err(refusal) => {
+            let _ = refusal.print(&mut errors, "foyerbench", options.directory);
+            1
+        }
+    }
+}
+
+// Prints the report, or why there is none. Gives the exit status.
+fn print_report<W: Write, E: Write>(
+    plan: &Plan,
+    report: Result<Report>,
+    output: &mut W,
+    errors: &mut E,
+) -> u8 {
     match report {
-        Ok(report) => match print(&mut output, plan, &report) {
+        Ok(report) => match print(output, plan, &report) {
             Ok(true) => 0,
             _ => 1,
         },
@@ -102,8 +129,8 @@ where
 
 /// Runs a bench by the words `DIR CAPACITY BLOCK THREADS VALUE_BYTES SECONDS [NAME=VALUE..]`. The given number of threads call one store
 /// for the given time, or make the given number of calls. Then it prints what they counted, and gives the exit status: 0, or 2 for bad
-/// words. The status is 1 if a call was refused or answered wrongly, the output failed, or the store couldn't be built, filled, timed or
-/// closed. `--version` alone prints the version. The ledgers must fit `L` and have 2^32 parts each (`CoreBlanks::new`).
+/// words. The status is 1 if a call was refused or answered wrongly, the output failed, the directory couldn't be locked, or the store
+/// couldn't be built, filled, timed or closed. `--version` alone prints the version. The ledgers must fit `L` and have 2^32 parts each (`CoreBlanks::new`).
 pub fn bench<L, T, B, W, E>(
     rt: T,
     alloc: Global,

@@ -7,9 +7,9 @@ ghost use Rattle.std.specs.Prelude.{◌≡◌, ◌^◌};
 
 use foyer_storage::error::Result;
 use foyer_storage::{
-    Blanks, BlockEngineConfig, BuiltInCondition, Clock, DeviceBuilder, Engine, EstimatedSize,
-    FsDevice, FsDeviceBuilder, Kinds, Load, NoProperties, PsyncIoEngineConfig, StdHashBuilder,
-    StorageFilter, Store, StoreBuilder, SystemClock, Throttle,
+    Blanks, BlockEngineConfig, BuiltInCondition, Clock, DeviceBuilder, DirectoryLock,
+    DirectoryShape, Engine, EstimatedSize, FsDevice, FsDeviceBuilder, Kinds, Load, NoProperties,
+    PsyncIoEngineConfig, StdHashBuilder, StorageFilter, Store, StoreBuilder, SystemClock, Throttle,
 };
 use std::alloc::Global;
 use std::fs::File;
@@ -21,6 +21,9 @@ use std::rt::Files;
 use std::sync::Wait;
 use std::thread::Threads;
 use std::{env, fs};
+
+// The size of a block in bytes.
+const BLOCK_SIZE: usize = 64 << 10;
 
 type Hashes = StdHashBuilder<BuildHasherDefault<FoldHasher>>;
 
@@ -46,7 +49,7 @@ fn config(alloc: Global, device: FsDevice<Global>) -> Result<BlockEngineConfig<F
     let admission = StorageFilter::new();
     let admission = admission.with_condition(alloc, BuiltInCondition::EstimatedSize(small))?;
     let config = BlockEngineConfig::new(device)
-        .with_block_size(64 << 10)
+        .with_block_size(BLOCK_SIZE)
         .with_flushers(2)
         .with_tombstone_log(true)
         .with_admission_filter(admission);
@@ -118,7 +121,7 @@ where
     Ok(())
 }
 
-// Opens the cache, answers each line of the input, and closes it, which writes what is queued.
+// Opens the cache, which no other program may have, answers each line of the input, and closes the cache, which writes what is queued.
 fn open_and_answer<L, R>(
     rt: R,
     alloc: Global,
@@ -141,6 +144,8 @@ where
         + 'static,
     requires { AreOf L.name_of L.all blanks × (L.all ≡ 2 ^ 32) }
 {
+    let shape = DirectoryShape::new(BLOCK_SIZE as u64, 1, true);
+    let _lock = DirectoryLock::take(&rt, alloc, cache, &shape)?;
     let clock = SystemClock::start(rt)?;
     let device = device(&rt, alloc, cache, clock.now())?;
     let hashes = StdHashBuilder {

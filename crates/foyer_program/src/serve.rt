@@ -13,6 +13,8 @@ use foyer_device_page::error::{ErrorKind, Result};
 use foyer_device_partition::io::device::{
     Device, DeviceBuilder, FsDeviceBuilder, MemoryDeviceBuilder,
 };
+use foyer_directory::lock::{DirectoryLock, PROGRAM_TRIES};
+use foyer_directory::shape::DirectoryShape;
 use foyer_format_record::serde::{IdentityHashBuilder, NoProperties};
 use foyer_io_engine::io::engine::{
     IoEngineConfig, MemoryIoEngine, PsyncIoEngineConfig, SharedMemoryIoEngineConfig,
@@ -173,7 +175,8 @@ fn memory(alloc: Global, capacity: usize) -> Result<SharedMemoryIoEngineConfig<G
 /// the version. The ledgers must fit `L` and have 2^32 parts each (`Blanks::new`).
 ///
 /// Each line of the input is answered by one line. Answers are written out before more input is asked for. If a directory, or the clock
-/// or the store over it, can't be opened, a line of `errors` names the directory and what failed. The fault is answered as well.
+/// or the store over it, can't be opened, a line of `errors` names the directory and what failed. The fault is answered as well. A directory
+/// that another program has is `Io`, and one that was made for another block size, number of cores or log is `Config`.
 pub fn serve<L, T, B, R, W, E>(
     rt: T,
     alloc: Global,
@@ -210,16 +213,16 @@ where
     if options.is_memory() {
         return serve_memory::<L, T, R, W>(rt, alloc, blanks, &options, block_size, input, output);
     }
-    let served = serve_directory::<L, T, R, W>(
-        rt, alloc, blanks, &options, block_size, input, output,
-    );
-    match served {
-        Ok(status) => status,
-        Err((failed, output)) => {
-            let _ = report(&mut errors, options.directory, &failed);
-            answer_fault(output, failed.kind)
-        }
-    }
+    serve_locked::<L, T, R, W, E>(
+        rt,
+        alloc,
+        blanks,
+        &options,
+        block_size,
+        input,
+        output,
+        &mut errors,
+    )
 }
 
 // As `serve_over`, over memory. Gives the exit status.
@@ -253,6 +256,56 @@ where
     ) {
         Ok(status) => status,
         Err((failed, output)) => answer_fault(output, failed.kind),
+    }
+}
+
+// As `serve_directory`, over a directory that no other program has, and that was made for blocks of this size, one core and no log. Gives
+// the exit status. If something can't be opened, it first says and answers that.
+fn serve_locked<L, T, R, W, E>(
+    rt: T,
+    alloc: Global,
+    blanks: Blanks,
+    options: &Options<'_>,
+    block_size: usize,
+    input: R,
+    output: W,
+    errors: &mut E,
+) -> u8
+where
+    L: Kinds + Send + Sync + 'static,
+    T: Threads + Wait + std::rt::Clock + Files<File = File> + AllocGlobal + Copy + Send + 'static,
+    R: Read + Drop,
+    W: Write + Drop,
+    E: Write,
+    requires { AreOf L.name_of L.all blanks × (L.all ≡ 2 ^ 32) }
+{
+    let shape = DirectoryShape::new(options.block_size, 1, false);
+    let lock = match DirectoryLock::take_within(
+        &rt,
+        alloc,
+        options.directory,
+        &shape,
+        PROGRAM_TRIES,
+    ) {
+        Ok(lock) => lock,
+        Err(refusal) => {
+            let _ = refusal.print(errors, "foyerdisk", options.directory);
+            return answer_fault(output, refusal.error().kind());
+        }
+    };
+    let served = serve_directory::<L, T, R, W>(
+        rt, alloc, blanks, options, block_size, input, output,
+    );
+    match served {
+        Ok(status) => {
+            drop(lock);
+            status
+        }
+        Err((failed, output)) => {
+            lock.forget();
+            let _ = report(errors, options.directory, &failed);
+            answer_fault(output, failed.kind)
+        }
     }
 }
 

@@ -2,12 +2,13 @@
 //!
 //! It has no code of its own. It re-exports names of `foyer_block`, `foyer_core`, `foyer_device`, `foyer_format`, `foyer_io` and
 //! `foyer_policy`. It also re-exports the store of `foyer_storage_build` with its engine, the engine on one thread of
-//! `foyer_storage_local`, and the sizes of `foyer_storage_plan`. If types of two modules have one name, only one of them is at the root.
-//! `Batch` is the buffer's, `Block` the manager's, and `Sequence` that of `block::serde`. `Enqueued`, `Load` and `Populated` are those of
-//! the engine that threads share. If you cite a definition, list its crate too.
+//! `foyer_storage_local`, the sizes of `foyer_storage_plan`, and the lock of `foyer_directory`. If types of two modules have one name, only
+//! one of them is at the root. `Batch` is the buffer's, `Block` the manager's, and `Sequence` that of `block::serde`. `Enqueued`, `Load`
+//! and `Populated` are those of the engine that threads share. If you cite a definition, list its crate too.
 #![tactic(auto)]
 
 pub mod block;
+pub mod directory;
 pub mod engine;
 pub mod io;
 pub mod local;
@@ -73,6 +74,9 @@ pub use crate::block::tombstone::PageBuffer;
 pub use crate::block::tombstone::Tombstone;
 pub use crate::block::tombstone::TombstoneLog;
 pub use crate::compress::Compression;
+pub use crate::directory::DirectoryLock;
+pub use crate::directory::DirectoryShape;
+pub use crate::directory::LockError;
 pub use crate::engine::Bell;
 pub use crate::engine::BlockEngine;
 pub use crate::engine::BlockEngineConfig;

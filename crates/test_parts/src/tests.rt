@@ -1,3 +1,4 @@
+mod directory;
 mod io;
 mod keeper;
 mod lock;

@@ -1,0 +1,27 @@
+-- The line that a directory's lock has, and what is made of the bytes that are found there.
+use Rattle.std.specs.Prelude.{ℕ, ◌+◌, ◌*◌, ◌/◌, ◌^◌, ◌<◌, Bool, true, false, List, ◌++◌, codes, decimal, if◌then◌else◌, nat_eq, bytes_eq}
+use Rattle.std.specs.List.{starts_with}
+use Rattle.foyer_directory.specs.declared.shape.DirectoryShape.{DirectoryShape}
+use Rattle.foyer_directory.specs.declared.shape.Recorded.{Recorded}
+use Rattle.foyer_directory.specs.declared.shape.Recorded.TheVariants as recorded
+
+abbrev pub log_digit : Bool → List ℕ
+log_digit true = codes "1"
+log_digit false = codes "0"
+
+abbrev pub shape_line : DirectoryShape → List ℕ
+shape_line s =
+    codes "block=" ++ (decimal s.block_size ++ (codes " cores=" ++ (decimal s.cores ++ (codes " log=" ++ (log_digit s.has_log ++ codes "\n")))))
+
+-- a size, rounded up to whole pages of 4096
+abbrev pub whole_pages : ℕ → ℕ
+whole_pages n = (n + 4095) / 4096 * 4096
+
+-- its numbers are those of a program
+abbrev pub IsShape : DirectoryShape → Type 0
+IsShape s = (s.block_size < 2 ^ 64) × (s.cores < 2 ^ 64)
+
+-- a line that isn't written to its end is begun, as is none
+abbrev pub recorded_as : List ℕ → List ℕ → Recorded
+recorded_as found line =
+    if bytes_eq found line then recorded.Same else (if starts_with nat_eq line found then recorded.Begun else recorded.Other)

@@ -1,0 +1,263 @@
+//! The lock of a directory.
+ghost use Rattle.std.specs.Prelude.{◌≡◌, ◌⊎◌, IfErr, OnOk};
+ghost use Rattle.std.specs.Io.KnownBytes.{Appends};
+ghost use Rattle.foyer_device_page.specs.declared.error.Error.TheVariants as error;
+ghost use Rattle.foyer_directory.specs.Refusals.{IsLockError, after, error_of, reason, refusal_line, text_of};
+ghost use Rattle.foyer_directory.specs.declared.lock.LockError.TheVariants as refusal;
+
+use crate::shape::{DirectoryShape, Recorded, compare};
+use crate::streams::fill_closed_streams;
+use foyer_device_page::error::{Error, Result};
+use std::alloc::{AllocError, Allocator};
+use std::fs::{File, OpenOptions, TryLockError};
+use std::io::Write;
+use std::os::unix::fs::{FileExt, MetadataExt};
+use std::rt::{Clock, Files};
+use std::time::Duration;
+use std::{fs, io, thread};
+
+/// How often a program tries again, for five seconds in all.
+pub const PROGRAM_TRIES: u32 = 100;
+
+// For how many milliseconds it sleeps before it tries again.
+const PAUSE: u64 = 50;
+
+// No line of a shape has more bytes than this.
+const LINE_LIMIT: u64 = 64;
+
+/// Why a directory isn't locked.
+#[derive(Clone, Copy, Debug, PartialEq, Eq)]
+pub enum LockError {
+    /// Another lock of this directory is held, by this program or another one.
+    InUse,
+    /// The directory was made for another shape.
+    OtherShape,
+    /// `Io`, also if the directory's file system has no locks; or `Memory`.
+    Fault(Error),
+}
+
+impl From<Error> for LockError {
+    ghost from_gives = { λ e l. l ≡ refusal.Fault e };
+
+    fn from(error: Error) -> LockError {
+        LockError::Fault(error)
+    }
+}
+
+impl From<AllocError> for LockError {
+    ghost from_gives = { λ _ l. l ≡ refusal.Fault error.Memory };
+
+    fn from(_error: AllocError) -> LockError {
+        LockError::Fault(Error::Memory)
+    }
+}
+
+impl From<LockError> for Error {
+    ghost from_gives = { λ l e. e ≡ error_of l };
+
+    fn from(error: LockError) -> Error {
+        error.error()
+    }
+}
+
+impl LockError {
+    /// The error that a call answers in its place: `Io` if the lock is held, `Config` for another shape.
+    pub fn error(&self) -> Error
+        ensures { result ≡ error_of self.now }
+    {
+        match self {
+            LockError::InUse => Error::Io,
+            LockError::OtherShape => Error::Config,
+            LockError::Fault(error) => *error,
+        }
+    }
+
+    // Why a directory isn't locked, in words.
+    fn text(&self) -> &'static str
+        ensures { result.now ≡ text_of self.now }
+    {
+        match self {
+            LockError::InUse => "the directory is in use",
+            LockError::OtherShape =>
+                "its block size, cores and log must be those in its foyer.lock",
+            LockError::Fault(_) => "the directory couldn't be opened",
+        }
+    }
+
+    /// Prints a line: a program, the directory, why the program can't open the directory, and the kind of `error`. An error is the
+    /// writer's.
+    pub fn print<W: Write>(&self, output: &mut W, program: &str, directory: &str) -> io::Result<()>
+        ensures { OnOk result
+            (Appends (W.contents output.old) (W.contents output.new) (refusal_line program.now directory.now self.now)) }
+    {
+        output.write_all(program.as_bytes())?;
+        print_after(output, directory)?;
+        self.print_reason(output)
+    }
+
+    fn print_reason<W: Write>(&self, output: &mut W) -> io::Result<()>
+        ensures { OnOk result (Appends (W.contents output.old) (W.contents output.new) (reason self.now)) }
+    {
+        print_after(output, self.text())?;
+        print_after(output, self.error().kind().name())?;
+        output.write_all(b"\n")
+    }
+}
+
+// Prints words after a colon.
+fn print_after<W: Write>(output: &mut W, words: &str) -> io::Result<()>
+    ensures { OnOk result (Appends (W.contents output.old) (W.contents output.new) (after words.now)) }
+{
+    output.write_all(b": ")?;
+    output.write_all(words.as_bytes())
+}
+
+/// A lock of a directory. It is held until it is dropped, or until its program ends, also by a kill.
+#[derive(Drop)]
+pub struct DirectoryLock {
+    file: File,
+    // Whether it wrote the line of the shape.
+    is_first: bool,
+}
+
+// Opens the file at a path, and makes it if it is missing. Errors: `Io`.
+fn open_file<R: Files<File = File>>(rt: &R, path: &str) -> Result<File>
+    ensures { IfErr result (λ e. e ≡ error.Io) }
+{
+    let opened = OpenOptions::new()
+        .read(true)
+        .write(true)
+        .create(true)
+        .open(rt, path);
+    match opened {
+        Ok(file) => Ok(file),
+        Err(_) => Err(Error::Io),
+    }
+}
+
+// Locks a file for one holder.
+fn lock_file(file: &File) -> std::result::Result<(), LockError>
+    ensures { IfErr result IsLockError }
+{
+    match file.try_lock() {
+        Ok(()) => Ok(()),
+        Err(TryLockError::WouldBlock) => Err(LockError::InUse),
+        Err(TryLockError::Error(_)) => Err(LockError::Fault(Error::Io)),
+    }
+}
+
+// All bytes of a file, or none if it has more than the line of any shape. Errors: `Io`, `Memory`.
+fn bytes_of<A: Allocator>(alloc: A, file: &File) -> Result<Option<Vec<u8, A>>>
+    ensures { IfErr result (λ e. (e ≡ error.Io) ⊎ (e ≡ error.Memory)) }
+{
+    let Ok(metadata) = file.metadata() else {
+        return Err(Error::Io);
+    };
+    let len = metadata.len();
+    if len > LINE_LIMIT {
+        return Ok(None);
+    }
+    let mut bytes = Vec::new(alloc);
+    bytes.resize(len as usize, 0)?;
+    match file.read_exact_at(bytes.as_mut_slice(), 0) {
+        Ok(()) => Ok(Some(bytes)),
+        Err(_) => Err(Error::Io),
+    }
+}
+
+// Whether a path leads to an open file. The file may have been removed, or another one may have been put in its place.
+fn is_at<R: Files<File = File>>(rt: &R, file: &File, path: &str) -> bool {
+    match (file.metadata(), fs::metadata(rt, path)) {
+        (Ok(held), Ok(found)) => held.ino() == found.ino() && held.dev() == found.dev(),
+        _ => false,
+    }
+}
+
+// Writes a line into a file, also to the disk. Errors: `Io`.
+fn write_line(file: &File, line: &[u8]) -> Result<()>
+    ensures { IfErr result (λ e. e ≡ error.Io) }
+{
+    if file.write_all_at(line, 0).is_ok() && file.sync_all().is_ok() {
+        Ok(())
+    } else {
+        Err(Error::Io)
+    }
+}
+
+// Compares a locked file with a line. Writes the line if the file has none, or only its first bytes. Gives whether it wrote the line.
+fn keep_line<A: Allocator>(
+    alloc: A,
+    file: &File,
+    line: &[u8],
+) -> std::result::Result<bool, LockError>
+    ensures { IfErr result IsLockError }
+{
+    let Some(found) = bytes_of(alloc, file)? else {
+        return Err(LockError::OtherShape);
+    };
+    match compare(&found, line) {
+        Recorded::Same => Ok(false),
+        Recorded::Begun => {
+            write_line(file, line)?;
+            Ok(true)
+        }
+        Recorded::Other => Err(LockError::OtherShape),
+    }
+}
+
+impl DirectoryLock {
+    /// Locks a directory, which is made with its parents if it is missing, for a cache of this shape. The lock is the system's advisory
+    /// lock of the file `foyer.lock` in the directory, so it holds off only programs that take it too. The first lock writes the line of
+    /// the shape into this file. Each later lock must be for the same shape. To change the shape, delete the whole directory. If a standard
+    /// stream of the program is closed, no file that is opened later takes its place. Drop the lock after all that uses the directory.
+    /// Errors: `InUse`, `OtherShape`; `Fault` of `Io` or `Memory`.
+    pub fn take<R: Files<File = File>, A: Allocator + Clone>(
+        rt: &R,
+        alloc: A,
+        directory: &str,
+        shape: &DirectoryShape,
+    ) -> std::result::Result<DirectoryLock, LockError>
+        ensures refused { IfErr result IsLockError }
+    {
+        let line = shape.line(alloc.clone()?)?;
+        let path = format!(in alloc.clone()?; "{directory}/foyer.lock")?;
+        if fs::create_dir_all(rt, directory).is_err() {
+            return Err(LockError::Fault(Error::Io));
+        }
+        fill_closed_streams(rt, directory)?;
+        let file = open_file(rt, path.as_str())?;
+        lock_file(&file)?;
+        if !is_at(rt, &file, path.as_str()) {
+            return Err(LockError::InUse);
+        }
+        let is_first = keep_line(alloc, &file, line.as_bytes())?;
+        Ok(DirectoryLock { file, is_first })
+    }
+
+    /// Gives the lock back after the cache couldn't be opened. If it was the first lock, the file has no shape again.
+    pub fn forget(self) {
+        if self.is_first {
+            let _ = self.file.set_len(0);
+        }
+    }
+
+    /// As `take`. If the lock is held, it tries again up to `tries` times, each time after 50 milliseconds. So it gets the lock of a program
+    /// that ends meanwhile.
+    pub fn take_within<R: Files<File = File> + Clock, A: Allocator + Clone>(
+        rt: &R,
+        alloc: A,
+        directory: &str,
+        shape: &DirectoryShape,
+        tries: u32,
+    ) -> std::result::Result<DirectoryLock, LockError>
+        ensures refused { IfErr result IsLockError }
+    {
+        for _ in 0..tries {
+            match DirectoryLock::take(rt, alloc.clone()?, directory, shape) {
+                Err(LockError::InUse) => thread::sleep(rt, Duration::from_millis(PAUSE)),
+                taken => return taken,
+            }
+        }
+        DirectoryLock::take(rt, alloc, directory, shape)
+    }
+}
