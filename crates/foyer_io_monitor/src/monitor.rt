@@ -1,4 +1,4 @@
-//! An engine that records each call that completes.
+//! An engine that records each of its calls, refused ones too.
 ghost use Rattle.std.specs.Prelude.{◌≡◌, ◌≢◌, ℕ, ◌≤◌, None, Err, IsSome, IfSome, IfErr, OnOk, MatchResult, length};
 ghost use Rattle.foyer_device_page.specs.declared.error.Error.TheVariants as error;
 ghost use Rattle.foyer_device_partition.specs.Extent.{Extent};

@@ -204,7 +204,7 @@ fn counter(name: &'static str, count: u64) -> Counted {
 }
 
 // The counters of the device and of the cache's threads.
-fn work_of(c: &StoreCounters) -> [Counted; 8] {
+fn work_of(c: &StoreCounters) -> [Counted; 9] {
     [
         counter("disk_write_bytes", c.disk_write_bytes),
         counter("disk_read_bytes", c.disk_read_bytes),
@@ -214,6 +214,7 @@ fn work_of(c: &StoreCounters) -> [Counted; 8] {
         counter("failed_blocks", c.failed_blocks),
         counter("reclaims", c.reclaims),
         counter("reinsertions", c.reinsertions),
+        counter("failed_appends", c.failed_appends),
     ]
 }
 

@@ -16,6 +16,8 @@ use foyer_device_page::error::{Error, Result};
 use foyer_device_partition::io::device::{
     Device, DeviceBuilder, FsDeviceBuilder, MemoryDeviceBuilder, Throttle,
 };
+use foyer_directory::lock::{DirectoryLock, PROGRAM_TRIES};
+use foyer_directory::shape::DirectoryShape;
 use foyer_format_record::serde::NoProperties;
 use foyer_frames::frames::Frames;
 use foyer_io_engine::io::engine::{
@@ -250,6 +252,54 @@ where
     )
 }
 
+// As `serve_directory`, over a directory that no other program has, and that was made for the same block size, cores and log. Gives the
+// exit status. If the cache can't be opened, it first says why.
+fn serve_locked<L, T, R, W, E>(
+    rt: T,
+    alloc: Global,
+    blanks: CoreBlanks,
+    words: &Options<'_>,
+    options: &PipeOptions,
+    input: R,
+    output: W,
+    errors: &mut E,
+) -> u8
+where
+    L: Kinds + Send + Sync + 'static,
+    T: Threads
+        + Wait
+        + std::rt::Clock
+        + Files<File = File>
+        + AllocGlobal
+        + Copy
+        + Send
+        + Sync
+        + 'static,
+    R: Read + Drop + Send,
+    W: Write + Drop + Send,
+    E: Write,
+    requires { AreOfCores L.name_of L.all blanks × (L.all ≡ 2 ^ 32) }
+{
+    let shape = DirectoryShape::new(words.block_size, options.cores, options.has_log);
+    match DirectoryLock::take_within(&rt, alloc, words.directory, &shape, PROGRAM_TRIES) {
+        Ok(lock) => {
+            let served = serve_directory::<L, T, R, W>(
+                rt, alloc, blanks, words, options, input, output,
+            );
+            if served.is_ok() {
+                drop(lock);
+            } else {
+                lock.forget();
+            }
+            status_of(errors, served)
+        }
+        Err(refusal) => {
+            let _ = refusal.print(errors, "foyerpipe", words.directory);
+            STATUS_FAULT
+        }
+    }
+}
+
 // Prints a line that says why the cache couldn't be opened.
 fn report<W: Write>(errors: &mut W, error: Error) -> io::Result<()> {
     errors.write_all(b"foyerpipe: the cache couldn't be opened: ")?;
@@ -257,10 +307,21 @@ fn report<W: Write>(errors: &mut W, error: Error) -> io::Result<()> {
     errors.write_all(b"\n")
 }
 
+// The exit status. If the cache couldn't be opened, it first says why.
+fn status_of<W: Write>(errors: &mut W, served: Result<u8>) -> u8 {
+    match served {
+        Ok(status) => status,
+        Err(error) => {
+            let _ = report(errors, error);
+            STATUS_FAULT
+        }
+    }
+}
+
 /// Runs the program over the words `DIR CAPACITY BLOCK` and settings, each `NAME=VALUE`, and gives its exit status, which is 0, 1 or 2.
 /// The status is 1 if the cache couldn't be opened, bytes were no frame, the input ended within a frame, a stream failed, or the close
-/// was refused. It is 2 for bad words. `--version` alone prints the version. The ledgers must fit `L` and have 2^32 parts each
-/// (`CoreBlanks::new`).
+/// was refused. It is also 1 for a directory that another program has, or that was made for another block size, number of cores or log. It
+/// is 2 for bad words. `--version` alone prints the version. The ledgers must fit `L` and have 2^32 parts each (`CoreBlanks::new`).
 ///
 /// Each request of the input is answered by one reply with its number. Replies are in the order of their requests, except those to gets
 /// that other threads answer. Replies of the thread that reads requests are written out before it asks for more input.
@@ -298,16 +359,18 @@ where
         let _ = errors.write_all(USAGE.as_bytes());
         return STATUS_USAGE;
     };
-    let served = if words.is_memory() {
-        serve_memory::<L, T, R, W>(rt, alloc, blanks, &words, &options, input, output)
-    } else {
-        serve_directory::<L, T, R, W>(rt, alloc, blanks, &words, &options, input, output)
-    };
-    match served {
-        Ok(status) => status,
-        Err(error) => {
-            let _ = report(&mut errors, error);
-            STATUS_FAULT
-        }
+    if words.is_memory() {
+        let served = serve_memory::<L, T, R, W>(rt, alloc, blanks, &words, &options, input, output);
+        return status_of(&mut errors, served);
     }
+    serve_locked::<L, T, R, W, E>(
+        rt,
+        alloc,
+        blanks,
+        &words,
+        &options,
+        input,
+        output,
+        &mut errors,
+    )
 }

@@ -137,6 +137,7 @@ where
             returned_puts: low.returned_puts.wrapping_add(high.returned_puts),
             reclaims: low.reclaims.wrapping_add(high.reclaims),
             reinsertions: low.reinsertions.wrapping_add(high.reinsertions),
+            failed_appends: low.failed_appends.wrapping_add(high.failed_appends),
         }
     }
 

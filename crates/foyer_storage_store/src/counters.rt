@@ -51,6 +51,8 @@ pub struct StoreCounters {
     pub reclaims: u64,
     /// Records of reclaimed blocks that the reinsertion filter admitted.
     pub reinsertions: u64,
+    /// Appends to the log of deletes that failed. A later opening may have forgotten the deletes of their batches.
+    pub failed_appends: u64,
 }
 
 // The counts of the calls of some hashes: some more than a line of the processor's cache.
@@ -199,6 +201,7 @@ impl CallCounters {
             failed_blocks: work.failed_blocks,
             reclaims: work.reclaims,
             reinsertions: work.reinsertions,
+            failed_appends: work.failed_appends,
             ..StoreCounters::default()
         };
         for stripe in self.stripes.iter() {

@@ -17,6 +17,8 @@ pub struct WorkCounts {
     pub reclaims: u64,
     /// Records of reclaimed blocks that the reinsertion filter admitted.
     pub reinsertions: u64,
+    /// Appends to the log of deletes that failed. A later opening may have forgotten the deletes of their batches.
+    pub failed_appends: u64,
 }
 
 /// The counters of which a `WorkCounts` is a reading. Threads share them by reference.
@@ -26,6 +28,7 @@ pub struct WorkCounters {
     returned_puts: AtomicU64,
     reclaims: AtomicU64,
     reinsertions: AtomicU64,
+    failed_appends: AtomicU64,
 }
 
 // Written out, so that it is proved once.
@@ -37,6 +40,7 @@ impl Drop for WorkCounters {
             returned_puts: _,
             reclaims: _,
             reinsertions: _,
+            failed_appends: _,
         } = self;
     }
 }
@@ -50,6 +54,7 @@ impl WorkCounters {
             returned_puts: AtomicU64::new(0),
             reclaims: AtomicU64::new(0),
             reinsertions: AtomicU64::new(0),
+            failed_appends: AtomicU64::new(0),
         }
     }
 
@@ -80,6 +85,11 @@ impl WorkCounters {
         }
     }
 
+    /// Counts an append to the log of deletes that failed.
+    pub fn add_failed_append(&self) {
+        let _ = self.failed_appends.fetch_add(1, Ordering::Relaxed);
+    }
+
     /// Gives the numbers. They are read one after another, so together they may be of no one moment.
     pub fn shown(&self) -> WorkCounts {
         WorkCounts {
@@ -88,6 +98,7 @@ impl WorkCounters {
             returned_puts: self.returned_puts.load(Ordering::Relaxed),
             reclaims: self.reclaims.load(Ordering::Relaxed),
             reinsertions: self.reinsertions.load(Ordering::Relaxed),
+            failed_appends: self.failed_appends.load(Ordering::Relaxed),
         }
     }
 }

@@ -16,6 +16,7 @@ use foyer_block_index::tombstone::Tombstone;
 use foyer_block_manager::block::eviction::EvictionPicker;
 use foyer_block_tombstone::block::tombstone::MarkLog;
 use foyer_core_tally::book::Kinds;
+use foyer_device_page::error::Result;
 use foyer_format_record::serde::{Code, Properties};
 use foyer_io_disk::disk::Disk;
 use foyer_io_gate::gate::{Gate, Point};
@@ -30,6 +31,7 @@ use foyer_storage_engine::core_steps::apply::no_io;
 use foyer_storage_engine::core_steps::reply::{Reply, Write};
 use foyer_storage_engine::core_steps::step::Step;
 use foyer_storage_engine::engine::BlockEngine;
+use foyer_storage_engine::engine::counts::WorkCounters;
 use std::alloc::Allocator;
 use std::sync::{Mutex, Wait};
 
@@ -286,7 +288,14 @@ pub(super) enum Begun<A: Allocator> {
     Logged(Appended<A>),
 }
 
-// Appends the marks of a batch to the log of deletes, if the engine has one, and reports the outcome.
+// Counts an append to the log of deletes if it failed.
+fn count_append(work: &WorkCounters, outcome: Result<()>) {
+    if outcome.is_err() {
+        work.add_failed_append();
+    }
+}
+
+// Appends the marks of a batch to the log of deletes, if the engine has one. Counts the append if it failed, and reports the outcome.
 #[tactic(auto, using(foyer_storage_engine::proofs::HoldingLemmas::held_on, foyer_storage_engine::proofs::HoldingLemmas::held_by_step, foyer_storage_engine::proofs::HoldingLemmas::held_same))]
 fn log_marks<L, K, V, P, A, E, C, D, G, N, M>(
     rt: &impl Wait,
@@ -319,6 +328,7 @@ where
     }
     let appended = append(rt, log, marks);
     let result = appended.outcome();
+    count_append(&engine.signals().work, result);
     let wrote = Step::LogWrote { flusher, result };
     let _ = engine.step_again(rt, session, no_io(), wrote);
     Begun::Logged(appended)

@@ -24,6 +24,10 @@ fn say_blocks(said: &mut Said, counts: &StoreCounters) {
     said.number(" again ", counts.reinsertions);
 }
 
+fn say_log(said: &mut Said, counts: &StoreCounters) {
+    said.number("failed appends ", counts.failed_appends);
+}
+
 fn say_written(said: &mut Said, counts: &StoreCounters) {
     said.number("wrote ", counts.disk_write_bytes);
     said.number(" in ", counts.disk_write_ios);
@@ -41,6 +45,7 @@ pub(crate) fn say_counts(said: &mut Said, counts: &StoreCounters, word: &str) {
         "loads" => say_loads(said, counts),
         "batches" => said.number("batches ", counts.batches),
         "blocks" => say_blocks(said, counts),
+        "log" => say_log(said, counts),
         "written" => say_written(said, counts),
         "read" => say_read(said, counts),
         _ => said.word("?"),

@@ -32,6 +32,13 @@ and of a log, which writes a page where there are marks, as a destroy has one
 log < counts written, counts read, del 1, wait, counts written, del 2, wait, wait, counts written, put 1 a, wait, counts written, counts read | wrote 0 in 0, read 20480 in 5, ok, ok, wrote 4096 in 1, ok, ok, ok, wrote 8192 in 2, queued, ok, wrote 20480 in 5, read 20480 in 5
 rejects, log < put 1 a, wait, counts written | deleted, ok, wrote 4096 in 1
 log, blocks 2 < put 1 a, wait, destroy, counts written, counts read / counts read | queued, ok, ok, wrote 24576 in 6, read 12288 in 3 / read 12288 in 3
+an append to a log that failed is counted, and then the delete is forgotten
+log < del 1, wait, counts log | ok, ok, failed appends 0
+log, fails 2 < del 1, wait, counts log, del 2, wait, counts log / fails 0 < counts log | ok, ok, failed appends 1, ok, ok, failed appends 1 / failed appends 0
+log < put 1 a, wait / fails 2 < get 1, del 1, wait, counts log, get 1 / fails 0 < get 1 | queued, ok / entry a, ok, ok, failed appends 1, miss / entry a
+log < put 1 a, wait / get 1, del 1, wait, counts log, get 1 / get 1 | queued, ok / entry a, ok, ok, failed appends 0, miss / miss
+and all cores' are counted together
+cores 2, log, fails 2 < del 1, wait, counts log, del 2, wait, counts log | ok, ok, failed appends 1, ok, ok, failed appends 2
 calls are counted as limits count them
 per 1024, opens none < fill 1 5000, wait, counts written, get 1, counts read | queued, ok, wrote 16384 in 16, entry of 5000, read 8192 in 8
 ";

@@ -178,7 +178,17 @@ disk in the way, 16384, 16384 < get 1 | fault Io, errors foyerdisk: in the way: 
 unlink in the way | yes
 make barred/foyer-storage-direct-fs-00000001 | yes
 disk barred, 32768, 16384 < get 1 | fault Io, errors foyerdisk: barred: the store couldn't be opened: Io, status 1
+length barred/foyer.lock | 0
 remove barred | yes
+a directory keeps its block size, but not its capacity, and nothing but a file can be its lock
+disk shape, 65536, 16384 < put 1 a | queued, status 0
+length shape/foyer.lock | 26
+disk shape, 65536, 32768 < get 1 | fault Config, errors foyerdisk: shape: its block size, cores and log must be those in its foyer.lock: Config, status 1
+disk shape, 32768, 16383 < get 1 | entry a, status 0
+remove shape | yes
+make held/foyer.lock | yes
+disk held, 32768, 16384 < get 1 | fault Io, errors foyerdisk: held: the directory couldn't be opened: Io, status 1
+remove held | yes
 what was put into a directory is found again, of two values the newer, and what was destroyed stays away
 disk again, 65536, 16384 < put 1 a, put 2 bb, wait, put 1 c | queued, queued, ok, queued, status 0
 disk again, 65536, 16384 < get 1, get 2, get 3, destroy, get 1, put 3 d | entry c, entry bb, miss, ok, miss, queued, status 0
