@@ -52,14 +52,6 @@ impl From<AllocError> for LockError {
     }
 }
 
-impl From<LockError> for Error {
-    ghost from_gives = { λ l e. e ≡ error_of l };
-
-    fn from(error: LockError) -> Error {
-        error.error()
-    }
-}
-
 impl LockError {
     /// The error that a call answers in its place: `Io` if the lock is held, `Config` for another shape.
     pub fn error(&self) -> Error

@@ -145,7 +145,10 @@ where
     requires { AreOf L.name_of L.all blanks × (L.all ≡ 2 ^ 32) }
 {
     let shape = DirectoryShape::new(BLOCK_SIZE as u64, 1, true);
-    let _lock = DirectoryLock::take(&rt, alloc, cache, &shape)?;
+    let _lock = match DirectoryLock::take(&rt, alloc, cache, &shape) {
+        Ok(lock) => lock,
+        Err(refusal) => return Err(refusal.error()),
+    };
     let clock = SystemClock::start(rt)?;
     let device = device(&rt, alloc, cache, clock.now())?;
     let hashes = StdHashBuilder {
