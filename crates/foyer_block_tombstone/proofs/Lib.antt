@@ -7,3 +7,5 @@ pub mod StageLemmas
 pub mod MemoryLemmas
 pub mod WriteLemmas
 pub mod LastingLemmas
+pub mod OutcomeLemmas
+pub mod OrderLemmas

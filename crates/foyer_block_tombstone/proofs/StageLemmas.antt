@@ -7,7 +7,7 @@ use Rattle.foyer_block_index.specs.declared.tombstone.Tombstone.{Tombstone}
 use Rattle.foyer_io_engine.specs.Disk.{Disk, Becomes}
 use Rattle.foyer_block_tombstone.specs.Pages.{Place, AreApart}
 use Rattle.foyer_block_tombstone.specs.PageBytes.{ChangesPages, ring_on}
-use Rattle.foyer_block_tombstone.specs.Ring.{IsPut, IsPutAt, IsTouched, IsRead, GoesOnAt}
+use Rattle.foyer_block_tombstone.specs.Ring.{IsPut, IsPutAt, IsTouched, IsRead, GoesOnAt, no_mark}
 use Rattle.foyer_block_tombstone.proofs.RoundLemmas.{le_or_lt, page_of_slot, reach_page, round_other}
 use Rattle.foyer_block_tombstone.proofs.RingLemmas.{put_as}
 use Rattle.foyer_block_tombstone.proofs.PageLemmas.{ring_kept}
@@ -165,24 +165,29 @@ touched_from {d} {e} {ps} slots start count changes = record {
 }
 
 -- where a log continues after all its slots were read
-pub goes_on : (ring : ℕ → Tombstone) (n : ℕ) (base marks : List Tombstone) (sequence slot : ℕ) → IsRead ring n base marks sequence slot → GoesOnAt ring n slot
-goes_on ring n base marks sequence slot read =
+pub goes_on : (ring : ℕ → Tombstone) (n : ℕ) (base marks : List Tombstone) (newest : Tombstone) (slot : ℕ) → IsRead ring n base marks newest slot → GoesOnAt ring n slot newest
+goes_on ring n base marks newest slot read =
     elim read.next [
-      | inl none ↦ inl (λ i within. let le : (ring i).sequence ≤ sequence = read.greatest i within in omega (arith, none.0, le), none.1)
-      | inr some ↦ inr (
-        some.0,
-        record {
-          within = some.1;
-          filled = omega (arith, some.3, some.4);
-          before = λ j within. let le : (ring j).sequence ≤ sequence = read.greatest j within in omega (arith, le, some.4);
-          behind = λ j after within. let lt : (ring j).sequence < sequence = some.5 j after within in omega (arith, lt, some.4);
-        },
-        some.2,
-      )
+      | inl none ↦
+          let zero_is : newest.sequence ≡ 0 = ap (λ (m : Tombstone). m.sequence) none.0 in
+          inl (λ i within. let le : (ring i).sequence ≤ newest.sequence = read.greatest i within in omega (arith, zero_is, le), none.1, none.0)
+      | inr some ↦
+          let is : (ring some.0).sequence ≡ newest.sequence = ap (λ (m : Tombstone). m.sequence) some.4 in
+          inr (
+            some.0,
+            record {
+              within = some.1;
+              filled = omega (arith, some.3, is);
+              before = λ j within. let le : (ring j).sequence ≤ newest.sequence = read.greatest j within in omega (arith, le, is);
+              behind = λ j after within. let lt : (ring j).sequence < newest.sequence = some.5 j after within in omega (arith, lt, is);
+            },
+            some.2,
+            some.4,
+          )
     ]
 
 -- before any slot was read
-pub read_none : (ring : ℕ → Tombstone) (base : List Tombstone) → IsRead ring 0 base base 0 1
+pub read_none : (ring : ℕ → Tombstone) (base : List Tombstone) → IsRead ring 0 base base no_mark 1
 read_none ring base = record {
   listed = sym (append-nil base);
   greatest = λ j within. absurd (omega arith);

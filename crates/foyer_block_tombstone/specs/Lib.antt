@@ -1,6 +1,7 @@
 pub mod Appended
 pub mod Lasting
 pub mod Mark
+pub mod Order
 pub mod Pages
 pub mod PageBytes
 pub mod Ring

@@ -25,22 +25,27 @@ pub record IsNewest (ring : ℕ → Tombstone) (n i : ℕ) : Type 0 where
   pub before : (j : ℕ) → j < n → (ring j).sequence ≤ (ring i).sequence
   pub behind : (j : ℕ) → i < j → j < n → (ring j).sequence < (ring i).sequence
 
--- the number at which a log with these slots goes on
-abbrev pub GoesOnAt : (ℕ → Tombstone) → ℕ → ℕ → Type 0
-GoesOnAt ring n slot = (IsEmpty ring n × (slot ≡ 1)) ⊎ ((i : ℕ) × IsNewest ring n i × (slot ≡ i + 1))
+-- what stands in an empty slot
+abbrev pub no_mark : Tombstone
+no_mark = record { hash = 0; sequence = 0 }
+
+-- the number at which a log with these slots goes on, and its newest mark
+abbrev pub GoesOnAt : (ℕ → Tombstone) → ℕ → ℕ → Tombstone → Type 0
+GoesOnAt ring n slot newest =
+    (IsEmpty ring n × (slot ≡ 1) × (newest ≡ no_mark)) ⊎ ((i : ℕ) × IsNewest ring n i × (slot ≡ i + 1) × (ring i ≡ newest))
 
 -- the same of one slot, whose mark was old and is new
 pub record IsPutAt (slots start : ℕ) (marks : List Tombstone) (i : ℕ) (old new : Tombstone) : Type 0 where
   pub last : (k : ℕ) → k < length marks → (start + k) % slots ≡ i → length marks ≤ k + slots → slice_get marks k ≡ Some new
   pub kept : ((k : ℕ) → k < length marks → (start + k) % slots ≢ i) → new ≡ old
 
--- the first n slots were read: their marks are listed behind a base, and the greatest sequence and the slot behind it
+-- the first n slots were read: their marks are listed behind a base, and the mark of the greatest sequence and the slot behind it
 -- are these
-pub record IsRead (ring : ℕ → Tombstone) (n : ℕ) (base marks : List Tombstone) (sequence slot : ℕ) : Type 0 where
+pub record IsRead (ring : ℕ → Tombstone) (n : ℕ) (base marks : List Tombstone) (newest : Tombstone) (slot : ℕ) : Type 0 where
   pub listed : marks ≡ base ++ marks_of ring n
-  pub greatest : (j : ℕ) → j < n → (ring j).sequence ≤ sequence
-  pub next : ((sequence ≡ 0) × (slot ≡ 1)) ⊎ ((i : ℕ) × (i < n) × (slot ≡ i + 1) × (0 < sequence) × ((ring i).sequence ≡ sequence)
-      × ((j : ℕ) → i < j → j < n → (ring j).sequence < sequence))
+  pub greatest : (j : ℕ) → j < n → (ring j).sequence ≤ newest.sequence
+  pub next : ((newest ≡ no_mark) × (slot ≡ 1)) ⊎ ((i : ℕ) × (i < n) × (slot ≡ i + 1) × (0 < newest.sequence) × (ring i ≡ newest)
+      × ((j : ℕ) → i < j → j < n → (ring j).sequence < newest.sequence))
 
 -- a page with a slot that one of the marks, put from a slot on, comes into
 abbrev pub IsTouched : (slots start count page : ℕ) → Type 0

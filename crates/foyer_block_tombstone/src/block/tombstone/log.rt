@@ -2,12 +2,13 @@
 ghost use Rattle.std.specs.Prelude.{◌≡◌, ◌⊎◌, ℕ, ◌+◌, ◌*◌, ◌/◌, ◌%◌, ◌<◌, ◌≤◌, ◌^◌, ◌++◌, [], Ok, None, length, take, Err, IfOk, IfErr, OnOk, OnErr, IfSome, MatchResult};
 ghost use Rattle.foyer_device_page.specs.declared.error.Error.TheVariants as error;
 ghost use Rattle.foyer_io_engine.specs.Disk.{IfKnown, Becomes};
+ghost use Rattle.foyer_block_tombstone.specs.Appended.{DidAppend, DidPut, IsPutBefore, IsPutBehind, IsPutFrom};
 ghost use Rattle.foyer_block_tombstone.specs.Pages.{AreApart, pages_of, places};
 ghost use Rattle.foyer_block_tombstone.specs.Ring.{IsPut, IsPutAt, IsRead, IsTouched, GoesOnAt, marks_of, touched};
 ghost use Rattle.foyer_block_tombstone.specs.Writes.{HasWritten, HasWrittenAtMost};
 ghost use Rattle.foyer_block_tombstone.specs.PageBytes.{HasPage, HasPages, CanHoldLog, HoldsPage, ChangesPages, IsLogFault, IsOpenFault, ring_on};
 
-use super::marks::{self, Newest, take_marks};
+use super::marks::{self, NO_MARK, Newest, take_marks};
 use super::page::PageBuffer;
 use foyer_block_index::tombstone::Tombstone;
 use foyer_device_page::error::{Error, Result};
@@ -22,6 +23,8 @@ pub struct TombstoneLog<E: IoEngine + Drop, P: Partition + Drop, A: Allocator> {
     buffer: PageBuffer<E, P, A>,
     pages: u64,
     slot: u64,
+    // The mark of the greatest sequence. If an append was refused, the pages may lack it.
+    newest: Tombstone,
 }
 
 // Written out, so that it is proved once.
@@ -31,6 +34,7 @@ impl<E: IoEngine + Drop, P: Partition + Drop, A: Allocator> Drop for TombstoneLo
             buffer: _,
             pages: _,
             slot: _,
+            newest: _,
         } = self;
     }
 }
@@ -49,6 +53,7 @@ impl<E: IoEngine + Drop, P: Partition + Drop, A: Allocator> Model for TombstoneL
       places = l.buffer.places;
       page = l.buffer.page;
       slot = l.slot;
+      newest = l.newest;
       writes = l.buffer.writes;
     } };
 
@@ -124,7 +129,7 @@ fn read_pages<E: IoEngine + Drop, P: Partition + Drop, A: Allocator>(
     requires few { pages < 2 ^ 55 }
     requires fresh { buffer.old.page ≡ None }
     ensures read { IfOk result (λ newest. IfKnown (E.disk buffer.old.engine) (λ d.
-        IsRead (ring_on d buffer.old.places) (256 * pages) tombstones.old.items tombstones.new.items newest.sequence newest.slot)) }
+        IsRead (ring_on d buffer.old.places) (256 * pages) tombstones.old.items tombstones.new.items newest.mark newest.slot)) }
     ensures fresh { IfOk result (λ _. IfSome buffer.new.page (λ n. IfKnown (E.disk buffer.new.engine) (λ d. HoldsPage d buffer.old.places n buffer.new.bytes))) }
     ensures places { buffer.new.places ≡ buffer.old.places }
     ensures kept { E.disk buffer.new.engine ≡ E.disk buffer.old.engine }
@@ -137,7 +142,7 @@ fn read_pages<E: IoEngine + Drop, P: Partition + Drop, A: Allocator>(
         ⊎ IsLogFault (E.faults buffer.old.engine) (E.faults buffer.new.engine) e) }
 {
     let mut newest = Newest {
-        sequence: 0,
+        mark: NO_MARK,
         slot: 1,
     };
     'pages: for page in 0..pages {
@@ -167,7 +172,7 @@ impl<E: IoEngine + Drop, P: Partition + Drop, A: Allocator> TombstoneLog<E, P, A
         ensures marks { IfOk result (λ l. IfKnown (E.disk l.engine) (λ d.
             tombstones.new.items ≡ tombstones.old.items ++ marks_of (ring_on d l.places) (256 * pages_of l.places))) }
         ensures slot { IfOk result (λ l. IfKnown (E.disk l.engine) (λ d.
-            GoesOnAt (ring_on d l.places) (256 * pages_of l.places) l.slot)) }
+            GoesOnAt (ring_on d l.places) (256 * pages_of l.places) l.slot l.newest)) }
         ensures writes { IfOk result (λ l. l.writes ≡ 0) }
         ensures unchanged { OnErr result (tombstones.new.items ≡ tombstones.old.items) }
         ensures empty { pages_of (places P.extent P.bytes partitions.items) ≡ 0
@@ -189,6 +194,7 @@ impl<E: IoEngine + Drop, P: Partition + Drop, A: Allocator> TombstoneLog<E, P, A
                 buffer,
                 pages,
                 slot: newest.slot,
+                newest: newest.mark,
             }),
             Err(e) => {
                 tombstones.truncate(before);
@@ -211,11 +217,12 @@ impl<E: IoEngine + Drop, P: Partition + Drop, A: Allocator> TombstoneLog<E, P, A
         self.buffer.writes()
     }
 
-    /// Puts the marks at the numbers from `slot` on, and writes each page that they come into once. This asks that no two partitions
-    /// overlap. Without marks it writes nothing. Errors: `OutOfRange` if a page isn't there; `Io`. An error leaves `slot` as it was. Any
-    /// bytes may then stand in the pages that the marks come into.
-    pub fn append(&mut self, marks: &[Tombstone]) -> Result<()>
+    // Puts the marks at the numbers from `slot` on, and writes each page that they come into once. This asks that no two partitions
+    // overlap. Without marks it writes nothing. Errors: `OutOfRange` if a page isn't there; `Io`. An error leaves `slot` as it was. Any
+    // bytes may then stand in the pages that the marks come into.
+    fn put_each(&mut self, marks: &[Tombstone]) -> Result<()>
         ensures places { self.new.places ≡ self.old.places }
+        ensures newest { self.new.newest ≡ self.old.newest }
         ensures slot { OnOk result ((self.old.slot + length marks.now < 2 ^ 64 → self.new.slot ≡ self.old.slot + length marks.now)
             × (self.new.slot % (256 * pages_of self.old.places) ≡ (self.old.slot + length marks.now) % (256 * pages_of self.old.places))) }
         ensures back { OnErr result ((self.new.slot ≡ self.old.slot) × (self.new.page ≡ None)) }
@@ -249,6 +256,76 @@ impl<E: IoEngine + Drop, P: Partition + Drop, A: Allocator> TombstoneLog<E, P, A
                 self.buffer.unload();
                 Err(e)
             }
+        }
+    }
+
+    // Does what `put_each` does.
+    fn put(&mut self, marks: &[Tombstone]) -> Result<()>
+        ensures { DidPut E.disk E.faults self.old marks.now self.new result }
+    {
+        self.put_each(marks)
+    }
+
+    // Puts the marks at the numbers from this one on. `slot` stays.
+    fn put_at(&mut self, number: u64, marks: &[Tombstone]) -> Result<()>
+        ensures { IsPutFrom E.disk E.faults self.old number marks.now self.new result }
+    {
+        let slot = self.slot;
+        self.slot = number;
+        let outcome = self.put(marks);
+        self.slot = slot;
+        outcome
+    }
+
+    // Puts marks that are older than the newest one, which moves behind them. It is written there first, so that it is never missing.
+    fn put_before_newest(&mut self, marks: &[Tombstone]) -> Result<()>
+        requires some { 0 < length marks.now }
+        requires few { length marks.now < 256 * pages_of self.old.places }
+        ensures { IsPutBefore E.disk E.faults self.old marks.now self.new result }
+    {
+        let slots = marks::SLOTS_PER_PAGE as u64 * self.pages;
+        let base = self.slot % slots;
+        let newest = [self.newest];
+        let moved = self.put_at(base + (marks.len() as u64 - 1), &newest);
+        if moved.is_err() {
+            return moved;
+        }
+        let outcome = self.put_at(base + (slots - 1), marks);
+        if outcome.is_ok() {
+            self.slot = slot_behind(self.slot, marks.len(), slots);
+        }
+        outcome
+    }
+
+    // Puts the marks behind the newest one. The last of them is the newest then.
+    fn put_behind_newest(&mut self, marks: &[Tombstone], last: Tombstone) -> Result<()>
+        ensures { IsPutBehind E.disk E.faults self.old marks.now last self.new result }
+    {
+        let outcome = self.put(marks);
+        if outcome.is_ok() {
+            self.newest = last;
+        }
+        outcome
+    }
+
+    /// Puts the marks at the numbers from `slot` on. If they are older than the newest mark, this one moves behind them: they are put from
+    /// the number before `slot` on, and the newest mark at the last number. So an opening goes on behind all marks, although the batches
+    /// of several flushers bring their marks in another order than that of the sequences. Asks that the marks' sequences rise, and that no
+    /// two partitions overlap. Writes each page that the marks come into once, and once more for the newest mark if it moves. Without marks
+    /// it writes nothing. Errors: `OutOfRange` if a page isn't there; `Io`. An error leaves `slot` as it was. Any bytes may then stand in
+    /// the pages that were to be written.
+    pub fn append(&mut self, marks: &[Tombstone]) -> Result<()>
+        ensures { DidAppend E.disk E.faults self.old marks.now self.new result }
+    {
+        if marks.is_empty() {
+            return Ok(());
+        }
+        let last = marks[marks.len() - 1];
+        let slots = marks::SLOTS_PER_PAGE as u64 * self.pages;
+        if self.newest.sequence <= last.sequence || slots <= marks.len() as u64 {
+            self.put_behind_newest(marks, last)
+        } else {
+            self.put_before_newest(marks)
         }
     }
 }

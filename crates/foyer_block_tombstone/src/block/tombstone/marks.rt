@@ -116,10 +116,16 @@ pub(super) fn put_marks(bytes: &mut [u8], page: u64, start: u64, slots: u64, mar
     }
 }
 
-/// The greatest sequence of the marks that were read, and the slot after that mark. If no mark was read, these are 0 and 1.
+// What stands in an empty slot.
+pub(super) const NO_MARK: Tombstone = Tombstone {
+    hash: 0,
+    sequence: 0,
+};
+
+/// The mark of the greatest sequence of those that were read, and the slot after it. If no mark was read, these are `NO_MARK` and 1.
 #[derive(Clone, Copy, Debug)]
 pub(super) struct Newest {
-    pub(super) sequence: u64,
+    pub(super) mark: Tombstone,
     pub(super) slot: u64,
 }
 
@@ -132,8 +138,8 @@ fn take_mark<A: Allocator>(
 ) -> Result<()>
     requires { slot + 1 < 2 ^ 64 }
     ensures read { OnOk result ((ring : ℕ → Tombstone) (base : List Tombstone) → ring slot ≡ mark
-        → IsRead ring slot base tombstones.old.items newest.old.sequence newest.old.slot
-        → IsRead ring (slot + 1) base tombstones.new.items newest.new.sequence newest.new.slot) }
+        → IsRead ring slot base tombstones.old.items newest.old.mark newest.old.slot
+        → IsRead ring (slot + 1) base tombstones.new.items newest.new.mark newest.new.slot) }
     ensures before { (length tombstones.old.items ≤ length tombstones.new.items)
         × (take (length tombstones.old.items) tombstones.new.items ≡ tombstones.old.items) }
     ensures memory { IsOkUnless result Memory }
@@ -142,9 +148,9 @@ fn take_mark<A: Allocator>(
         return Ok(());
     }
     tombstones.push(mark)?;
-    if mark.sequence >= newest.sequence {
+    if mark.sequence >= newest.mark.sequence {
         *newest = Newest {
-            sequence: mark.sequence,
+            mark,
             slot: slot + 1,
         };
     }
@@ -162,8 +168,8 @@ pub(super) fn take_marks<A: Allocator>(
     requires few { 256 * page + 256 < 2 ^ 64 }
     ensures read { OnOk result ((ring : ℕ → Tombstone) (base : List Tombstone)
         → ((j : ℕ) → j < 256 → ring (256 * page + j) ≡ mark_at (slice_index bytes.now) (16 * j))
-        → IsRead ring (256 * page) base tombstones.old.items newest.old.sequence newest.old.slot
-        → IsRead ring (256 * page + 256) base tombstones.new.items newest.new.sequence newest.new.slot) }
+        → IsRead ring (256 * page) base tombstones.old.items newest.old.mark newest.old.slot
+        → IsRead ring (256 * page + 256) base tombstones.new.items newest.new.mark newest.new.slot) }
     ensures before { (length tombstones.old.items ≤ length tombstones.new.items)
         × (take (length tombstones.old.items) tombstones.new.items ≡ tombstones.old.items) }
     ensures memory { IsOkUnless result Memory }

@@ -146,6 +146,14 @@ const ROWS: &str = "a log that went round goes on behind its last mark
 8192 8192 < open, append 1 3114, open, at 0 0, at 0 42, at 0 43, at 3 255 | 1/0 3115 43/1024 3072 3114 2091 3071
 a log of 300 marks goes on at 301
 8192 8192 < append 1 300, open, append 301 1, at 1 45, at 1 46 | 301 301/300 302 301 0
+older marks go before the newest one
+4096 < append 5 3, append 1 2, open, at 0 1, at 0 2, at 0 3, at 0 4, at 0 5 | 4 6 6/5 5 6 1 2 7
+older marks at the end of the ring go before the newest one, too
+4096 < append 10 254, append 1 3, open, at 0 253, at 0 254, at 0 255, at 0 0, at 0 1, at 0 2 | 255 258 2/256 262 1 2 3 263 11
+older marks for the whole ring overwrite the newest one
+4096 < append 1000 1, append 1 256, open, at 0 1, at 0 2 | 2 258 2/256 256 1
+if older marks are refused, the newest one stands behind their place already
+4096 < append 5 3, fail 2 0 1 2, open, fail 3 0 1 2, open, at 0 3, at 0 5 | 4 Io:4 4/3 Io:4 6/4 7 7
 a mark is its hash and its sequence
 4096 < append 1230066625199609624 1, page 0 | 2 16*0+1*34+1*36+1*38+1*40+1*42+1*44+1*46+1*48+1*17+1*18+1*19+1*20+1*21+1*22+1*23+1*24+4064*0
 a log of no pages is refused

@@ -11,7 +11,7 @@ invariant-pages g l = record {
   kept : g.E.IoEngine.disk l.buffer.engine ≡ g.E.IoEngine.disk l.fn.buffer.engine;
   writes : l.buffer.writes ≡ l.fn.buffer.writes;
   read : IfKnown (g.E.IoEngine.disk l.fn.buffer.engine) (λ d.
-      IsRead (ring_on d l.fn.buffer.places) (256 * l.page) l.fn.tombstones.items l.tombstones.items l.newest.sequence l.newest.slot);
+      IsRead (ring_on d l.fn.buffer.places) (256 * l.page) l.fn.tombstones.items l.tombstones.items l.newest.mark l.newest.slot);
   counted : g.E.IoEngine.faults l.fn.buffer.engine ≤ g.E.IoEngine.faults l.buffer.engine;
   fresh : IfSome l.buffer.page (λ n. IfKnown (g.E.IoEngine.disk l.buffer.engine) (λ d. HoldsPage d l.fn.buffer.places n l.buffer.bytes));
   before : (length l.fn.tombstones.items ≤ length l.tombstones.items) × (take (length l.fn.tombstones.items) l.tombstones.items ≡ l.fn.tombstones.items);

@@ -3,7 +3,7 @@ use Rattle.foyer_block_tombstone.proofs.StageLemmas.{put_from, touched_from}
 use borrow.Author.Tests.{eqb-true}
 use Rattle.std.proofs.Common.{◌≡◌, ◌*◌, ◌∙◌, length, ap, sym}
 use Rattle.foyer_block_tombstone.specs.Pages.{pages_of}
-use Rattle.foyer_block_tombstone.proofs.block.tombstone.log.TombstoneLog.append.Goals as goal
+use Rattle.foyer_block_tombstone.proofs.block.tombstone.log.TombstoneLog.put_each.Goals as goal
 
 pub returns-in-Ok-clause-put : goal.returns-in-Ok-clause-put
 returns-in-Ok-clause-put g c =
