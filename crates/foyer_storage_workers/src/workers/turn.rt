@@ -56,6 +56,10 @@ where
     let begin = Step::FlushBegin { flusher };
     let reply = engine.step_again(rt, session, no_io(), begin);
     if let Begun::No = do_begin(rt, engine, &*parts.log, flusher, session, reply) {
+        if is_busy {
+            // All that it took was dropped. A destroy may wait for that, and no batch will end.
+            engine.signals().done.ring(rt);
+        }
         return is_busy;
     }
     engine.signals().work.add_batch();

@@ -124,6 +124,11 @@ remove log-first | yes
 a delete lasts where there is a log
 engine lasts, 65536, 16384, log < put 1 a, put 2 b, wait, del 2, wait, get 1, get 2 | queued queued ok ok ok a miss
 engine lasts, 65536, 16384, log < get 1, get 2 | a miss
+a delete lasts over two openings, too, if its flusher appended it behind a newer delete of another flusher
+engine ordered, 131072, 16384, flushers 2, log < put 1 a, put 2 b, wait, del 1, del 2, wait | queued queued ok ok ok ok
+engine ordered, 131072, 16384, flushers 2, log < del 3, wait | ok ok
+engine ordered, 131072, 16384, flushers 2, log < get 1, get 2 | miss miss
+remove ordered | yes
 what is put next has the sequence behind that of the mark; the first file is the log
 engine marked, 65536, 16384, log < put 7 a, wait, del 7, wait | queued ok ok ok
 engine marked, 65536, 16384, log < get 7, put 2 b, wait | miss queued ok
