@@ -365,7 +365,8 @@ impl<N: Drop, K: Eq + Drop, V: Drop, P: Drop, H: Drop> Store<N, K, V, P, H> {
         }
     }
 
-    /// Destroys all entries: if it is `Ok`, what was put before is gone, on the device too. What is put meanwhile may be gone as well.
+    /// Destroys all entries: if it is `Ok`, what was put before is gone, on the device too. What is put meanwhile may be gone as well. It
+    /// ends only once nothing is queued at some moment, so other threads shouldn't put without a pause.
     /// Errors of a store over a device: `Closed`, `Memory` if memory is refused before it has begun, and `SequenceEnd`. `Io` or `Memory`
     /// is also the error of the first clean that failed. Then the index is clear, and a clean of every block was tried.
     pub fn destroy<S: Drop>(&self, rt: &impl Wait, session: &mut S) -> Result<()>

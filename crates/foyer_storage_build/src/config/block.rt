@@ -284,7 +284,8 @@ impl<D: Device, S: PickerSource, C: StorageFilterCondition, G: Gate> BlockEngine
         }
     }
 
-    /// What decides which records of a reclaimed block are written again. Default: none are.
+    /// What decides which records of a reclaimed block are written again. Default: none are. A reopening loses such a record if a newer one
+    /// lies before it in its block, and all records that were written behind it there.
     pub fn with_reinsertion_filter(
         self,
         filter: StorageFilter<C, Global>,
