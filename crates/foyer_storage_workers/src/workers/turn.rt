@@ -52,15 +52,15 @@ where
     ensures own { parts.new.flusher ≡ parts.old.flusher }
 {
     let flusher = parts.flusher;
-    let is_busy = receive_all(rt, engine, &*parts.keeper, flusher, session);
+    let has_taken = receive_all(rt, engine, &*parts.keeper, flusher, session);
     let begin = Step::FlushBegin { flusher };
     let reply = engine.step_again(rt, session, no_io(), begin);
     if let Begun::No = do_begin(rt, engine, &*parts.log, flusher, session, reply) {
-        if is_busy {
+        if has_taken {
             // All that it took was dropped. A destroy may wait for that, and no batch will end.
             engine.signals().done.ring(rt);
         }
-        return is_busy;
+        return has_taken;
     }
     engine.signals().work.add_batch();
     write_batch(rt, engine, &mut parts.disk, flusher, own, session);
