@@ -302,7 +302,8 @@ impl<H: Drop, N: Drop, I: Drop> StoreBuilder<H, N, I> {
         requires { N.fits blanks }
         ensures parts { IfOk result (λ r. r.1.steps.shares.parts + vec_len r.2.flushers + vec_len r.2.reclaimers ≡ 2 ^ 32) }
         ensures more { IfOk result (λ r. 1 < r.1.steps.shares.parts) }
-        ensures given { IfOk result (λ r. ((arc_value r.0.shared).name.now ≡ self.name.now) × ((arc_value r.0.shared).hasher ≡ self.hasher)) }
+        ensures given { IfOk result (λ r. ((arc_value r.0.shared).name.now ≡ self.name.now) × ((arc_value r.0.shared).hasher ≡ self.hasher)
+            × (arc_value (arc_value r.0.shared).keeper ≡ self.shards)) }
         ensures enabled { IfOk result (λ r. (arc_value r.0.shared).is_enabled ≡ not (N.keeps_nothing self.engine)) }
         ensures built { IfOk result (λ r. N.may_build self.engine (record {
           io_engine_config = self.io_engine;

@@ -14,7 +14,7 @@ use foyer_format_record::serde::{Code, Properties};
 use foyer_io_disk::disk::Disk;
 use foyer_io_gate::gate::Gate;
 use foyer_policy_filter::StorageFilterCondition;
-use foyer_storage_engine::bell::BellClosed;
+use foyer_storage_engine::bell::{Bell, BellClosed};
 use foyer_storage_engine::core_shared::notes::Noting;
 use foyer_storage_engine::core_shared::session::Session;
 use foyer_storage_engine::core_steps::apply::no_io;
@@ -22,6 +22,13 @@ use foyer_storage_engine::core_steps::step::Step;
 use foyer_storage_engine::engine::BlockEngine;
 use std::alloc::Allocator;
 use std::sync::Wait;
+
+// Rings a bell if that is due.
+fn ring_if(rt: &impl Wait, bell: &Bell, is_due: bool) {
+    if is_due {
+        bell.ring(rt);
+    }
+}
 
 // Takes what is queued, and writes it as one batch: whether there was anything to do.
 #[tactic(auto, using(foyer_storage_engine::proofs::HoldingLemmas::held_on, foyer_storage_engine::proofs::HoldingLemmas::held_by_step))]
@@ -56,10 +63,8 @@ where
     let begin = Step::FlushBegin { flusher };
     let reply = engine.step_again(rt, session, no_io(), begin);
     if let Begun::No = do_begin(rt, engine, &*parts.log, flusher, session, reply) {
-        if has_taken {
-            // All that it took was dropped. A destroy may wait for that, and no batch will end.
-            engine.signals().done.ring(rt);
-        }
+        // All that it took was dropped. A destroy may wait for that, and no batch will end.
+        ring_if(rt, &engine.signals().done, has_taken);
         return has_taken;
     }
     engine.signals().work.add_batch();
