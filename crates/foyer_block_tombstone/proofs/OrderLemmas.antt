@@ -120,14 +120,14 @@ newest_stands_last n slot old between new marks newest some few (inr stands) old
     } in
     let first : newest ≡ between i = some_is newest (between i) (put_there n (b + (len - 1)) i 0 old between (newest ∷ []) moved one) in
     let spared : (k : ℕ) → k < len → (b + (n - 1) + k) % n ≢ i =
-        λ k lt same.
-            let apart : b + (len - 1) + n ≤ b + (n - 1) + k = round_apart (b + (len - 1)) (b + (n - 1) + k) n (sym same) (omega arith) in
-            omega (arith, apart, lt, some) in
+    λ k lt same.
+    let apart : b + (len - 1) + n ≤ b + (n - 1) + k = round_apart (b + (len - 1)) (b + (n - 1) + k) n (sym same) (omega arith) in
+    omega (arith, apart, lt, some) in
     let below : i < n = mod-lt (b + (len - 1)) (omega arith) in
     let there : new i ≡ newest = put.kept i below spared ∙ sym first in
     let before_is : (b + (n - 1)) % n ≡ stands.0 =
-        ap (λ (x : ℕ). (x + (n - 1)) % n) stands.2 ∙ mod-add-mod (stands.0 + 1) n (n - 1)
-        ∙ ap (λ (x : ℕ). x % n) (let sum : stands.0 + 1 + (n - 1) ≡ stands.0 + n = omega arith in sum) ∙ add-mod_right stands.0 n ∙ mod-eq_of_lt stands.1.within in
+    ap (λ (x : ℕ). (x + (n - 1)) % n) stands.2 ∙ mod-add-mod (stands.0 + 1) n (n - 1)
+    ∙ ap (λ (x : ℕ). x % n) (let sum : stands.0 + 1 + (n - 1) ≡ stands.0 + n = omega arith in sum) ∙ add-mod_right stands.0 n ∙ mod-eq_of_lt stands.1.within in
     let round : (i + 1) % n ≡ (b + (len - 1) + 1) % n = mod-add-mod (b + (len - 1)) n 1 in
     let whole : b + (len - 1) + 1 ≡ b + len = omega arith in
     inr (
@@ -141,9 +141,9 @@ newest_stands_last n slot old between new marks newest some few (inr stands) old
           | inr none ↦
               let kept : new j ≡ between j = put.kept j lt none in
               let stays : between j ≡ old j =
-                  moved.kept j lt (λ k within same.
-                      let at : b + (len - 1) + k ≡ b + (len - 1) = omega arith in
-                      other (sym same ∙ ap (λ (x : ℕ). x % n) at)) in
+              moved.kept j lt (λ k within same.
+              let at : b + (len - 1) + k ≡ b + (len - 1) = omega arith in
+              other (sym same ∙ ap (λ (x : ℕ). x % n) at)) in
               let apart : j ≢ stands.0 = λ is. none 0 some (ap (λ (x : ℕ). x % n) (let plus : b + (n - 1) + 0 ≡ b + (n - 1) = omega arith in plus) ∙ before_is ∙ sym is) in
               let less : (old j).sequence < newest.sequence = stands.1.others j lt apart in
               subst (λ (m : Tombstone). m.sequence < newest.sequence) (sym (kept ∙ stays)) less

@@ -22,17 +22,19 @@ returns-then-is_ok g c =
     let newest_is : c.self.inside.newest ≡ c.args.self.now.newest = ap (λ (v : LogView _). v.newest) c.self.view_is in
     let pages_is : c.self.inside.pages ≡ pages_of c.args.self.now.places = c.self.invariant.0 ∙ ap (λ (v : LogView _). pages_of v.places) c.self.view_is in
     let kept : c.self-2.inside.slot ≡ c.args.self.now.slot =
-        ap (λ (v : LogView _). v.slot) c.self-2.view_is ∙ ap (λ (v : LogView _). v.slot) c.put_at-outcome.ensures.same ∙ ap (λ (v : LogView _). v.slot) c.put_at-moved.ensures.same in
+    ap (λ (v : LogView _). v.slot) c.self-2.view_is ∙ ap (λ (v : LogView _). v.slot) c.put_at-outcome.ensures.same ∙ ap (λ (v : LogView _). v.slot) c.put_at-moved.ensures.same in
     record {
       between = c.put_at-moved.new.self;
       first = c.put_at-moved.result;
       moved = rw (slot_is, newest_is, pages_is) at c.put_at-moved.ensures;
       then = inr (
         ok_is c.put_at-moved.result (sym c.is_err.ensures.value ∙ c.if-is_err.false),
-        (c.put_at-outcome.new.self,
-        rw (slot_is, pages_is) at c.put_at-outcome.ensures,
-        no_err _ c.put_at-outcome.result (sym c.is_ok.ensures.value ∙ c.if-is_ok.true),
-        on_ok _ c.put_at-outcome.result (rw (← c.self-2.view_is) refl, rw (← kept) c.slot_behind-self-inside.ensures.far, rw (← kept, ← pages_is) c.slot_behind-self-inside.ensures.same)),
+        (
+          c.put_at-outcome.new.self,
+          rw (slot_is, pages_is) at c.put_at-outcome.ensures,
+          no_err _ c.put_at-outcome.result (sym c.is_ok.ensures.value ∙ c.if-is_ok.true),
+          on_ok _ c.put_at-outcome.result (rw (← c.self-2.view_is) refl, rw (← kept) c.slot_behind-self-inside.ensures.far, rw (← kept, ← pages_is) c.slot_behind-self-inside.ensures.same),
+        ),
       );
     }
 
@@ -47,9 +49,11 @@ returns-else-is_ok g c =
       moved = rw (slot_is, newest_is, pages_is) at c.put_at-moved.ensures;
       then = inr (
         ok_is c.put_at-moved.result (sym c.is_err.ensures.value ∙ c.if-is_err.false),
-        (c.put_at-outcome.new.self,
-        rw (slot_is, pages_is) at c.put_at-outcome.ensures,
-        on_err _ c.put_at-outcome.result refl,
-        no_ok _ c.put_at-outcome.result (sym c.is_ok.ensures.value ∙ c.if-is_ok.false)),
+        (
+          c.put_at-outcome.new.self,
+          rw (slot_is, pages_is) at c.put_at-outcome.ensures,
+          on_err _ c.put_at-outcome.result refl,
+          no_ok _ c.put_at-outcome.result (sym c.is_ok.ensures.value ∙ c.if-is_ok.false),
+        ),
       );
     }
