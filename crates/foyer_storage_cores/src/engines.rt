@@ -86,9 +86,9 @@ where
 
     ghost may_judge = { λ e hash size verdict. OfSide (is_high hash e.bit) (N.may_judge e.low hash size verdict) (M.may_judge e.high hash size verdict) };
 
-    ghost may_enqueue = { λ e old new hash size answer. OfSide (is_high hash e.bit)
-        (N.may_enqueue e.low old.low new.low hash size answer × (new.high ≡ old.high))
-        (M.may_enqueue e.high old.high new.high hash size answer × (new.low ≡ old.low)) };
+    ghost may_enqueue = { λ e old new piece size answer. OfSide (is_high piece.hash e.bit)
+        (N.may_enqueue e.low old.low new.low piece size answer × (new.high ≡ old.high))
+        (M.may_enqueue e.high old.high new.high piece size answer × (new.low ≡ old.low)) };
 
     ghost may_load = { λ e old new hash answer. OfSide (is_high hash e.bit)
         (N.may_load e.low old.low new.low hash answer × (new.high ≡ old.high))

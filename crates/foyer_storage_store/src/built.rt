@@ -228,7 +228,7 @@ where
 
     ghost may_judge = { λ b hash size verdict. IsAdmissionUnder C.may_answer b.throttle b.admission hash size verdict };
 
-    ghost may_enqueue = { λ _ old new hash size answer. IsEnqueueAnswer old.steps new.steps hash size answer × (new.steps.shares.parts ≡ old.steps.shares.parts) };
+    ghost may_enqueue = { λ _ old new piece size answer. IsEnqueueAnswer old.steps new.steps piece.hash size answer × (new.steps.shares.parts ≡ old.steps.shares.parts) };
 
     ghost may_load = { λ b old new hash answer. IsLoadedUnder K.is_decodable V.is_decodable K.encoding V.encoding
         (IsReadBy ⟦<DeviceBlocks<N, Q> as Disk>⟧.is_known ⟦<DeviceBlocks<N, Q> as Disk>⟧.byte_at ⟦<DeviceBlocks<N, Q> as Disk>⟧.may_answer) b.throttle old.steps new.steps hash answer × (new.steps.shares.parts ≡ old.steps.shares.parts) };

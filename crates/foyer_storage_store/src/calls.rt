@@ -30,6 +30,7 @@ pub trait Engine<S: Drop, K: Eq, V, P>: Drop {
     ghost use Rattle.foyer_device_page.specs.declared.error.Error.{Error};
     ghost use Rattle.foyer_storage_engine.specs.declared.engine.Enqueued.{Enqueued};
     ghost use Rattle.foyer_storage_engine.specs.declared.load.Load.{Load};
+    ghost use Rattle.foyer_policy_piece.specs.Record.{Record};
     ghost use Rattle.foyer_policy_filter.specs.declared.verdict.StorageFilterResult.{StorageFilterResult};
     ghost use Rattle.foyer_storage_store.specs.declared.calls.DeviceSummary.{DeviceSummary};
 
@@ -39,8 +40,8 @@ pub trait Engine<S: Drop, K: Eq, V, P>: Drop {
     // What its admission filter may say of an entry of that hash and size.
     ghost may_judge: { Self → ℕ → ℕ → StorageFilterResult → Type 0 };
 
-    // What an enqueue of a piece of that hash and size may make of a caller's session, and answer.
-    ghost may_enqueue: { Self → S → S → ℕ → ℕ → Result Enqueued Error → Type 0 };
+    // What an enqueue of that piece, of that size, may make of a caller's session, and answer.
+    ghost may_enqueue: { Self → S → S → Record K V P → ℕ → Result Enqueued Error → Type 0 };
 
     // The same of a load of a hash.
     ghost may_load: { Self → S → S → ℕ → Result (Load K V P Global) Error → Type 0 };
@@ -82,7 +83,7 @@ pub trait Engine<S: Drop, K: Eq, V, P>: Drop {
         piece: &Piece<K, V, P, Global>,
         size: usize,
     ) -> Result<Enqueued>
-        ensures answered { may_enqueue self.now session.old session.new piece.now.hash size result }
+        ensures answered { may_enqueue self.now session.old session.new piece.now size result }
         ensures refused { IfErr result (λ e. is_draw_error e ≡ true) };
 
     /// Looks up a hash of which a keeper had no piece, at a moment in nanoseconds, and reads its entry. Errors: `Io`; `Memory`; `Parse`;

@@ -229,7 +229,7 @@ impl<N: Drop, K: Eq + Drop, V: Drop, P: Drop, H: Drop> Store<N, K, V, P, H> {
         ensures answered { ((result ≡ Err error.Memory) × (session.new ≡ session.old))
             ⊎ ((size : ℕ) × IsEstimated (V.is_encodable value) (V.encoding value) (K.is_encodable key) (K.encoding key) size × IsStored
             (N.may_judge (arc_value self.now.shared).engine (H.hash_of (arc_value self.now.shared).hasher key) size)
-            (N.may_enqueue (arc_value self.now.shared).engine session.old session.new (H.hash_of (arc_value self.now.shared).hasher key) size)
+            (N.may_enqueue (arc_value self.now.shared).engine session.old session.new (record_of key value (H.hash_of (arc_value self.now.shared).hasher key) properties) size)
             (N.may_delete (arc_value self.now.shared).engine session.old session.new (H.hash_of (arc_value self.now.shared).hasher key)) false result) }
         ensures refused { IfErr result (λ e. is_draw_error e ≡ true) }
     {
@@ -274,7 +274,7 @@ impl<N: Drop, K: Eq + Drop, V: Drop, P: Drop, H: Drop> Store<N, K, V, P, H> {
         requires own { piece.now.hash ≡ H.hash_of (arc_value self.now.shared).hasher piece.now.key }
         ensures answered { (size : ℕ) × IsEstimated (V.is_encodable piece.now.value) (V.encoding piece.now.value) (K.is_encodable piece.now.key) (K.encoding piece.now.key) size × IsStored
             (N.may_judge (arc_value self.now.shared).engine piece.now.hash size)
-            (N.may_enqueue (arc_value self.now.shared).engine session.old session.new piece.now.hash size)
+            (N.may_enqueue (arc_value self.now.shared).engine session.old session.new piece.now size)
             (N.may_delete (arc_value self.now.shared).engine session.old session.new piece.now.hash) force result }
         ensures refused { IfErr result (λ e. is_draw_error e ≡ true) }
     {
