@@ -27,6 +27,7 @@ use Rattle.foyer_core_told.specs.declared.event.Told.{Told}
 use Rattle.foyer_core_told.specs.declared.event.Told.TheVariants as told
 use Rattle.foyer_core_told.specs.ToldRuns.{Tells, IsTold}
 use Rattle.foyer_core_told.specs.ToldLoads.{is_read}
+use Rattle.foyer_core_told.specs.ToldQueued.{IsAllWritten}
 use Rattle.foyer_core_told.specs.Telling.{IsStep, HasStepped}
 use Rattle.foyer_core_told.proofs.ToldStepLemmas.{run_split}
 use Rattle.foyer_core_told.proofs.TellingLemmas.{not_empty}
@@ -42,6 +43,13 @@ module _ {K V P A D : Type 0} (m : Meaning K V P) (byte_at : D → ℕ → ℕ �
       → HasStepped m byte_at mine after step answer n ⊎ ((keeps ≡ true) × (answer ≡ replies.Refused kind.Memory step) × Same) → IsMade m byte_at keeps mine after step answer
   made_of mine after step answer n keeps Same seen (inl stepped) = inl (n, stepped)
   made_of mine after step answer n keeps Same seen (inr none) = inr (none.0, none.1, seen none.2)
+
+  -- a look-up of what is written, too
+  pub looked_made : (mine after : View (Told K V P A D)) (step : Step K V P A) (answer : Reply K V P A) (n h : ℕ) (keeps : Bool) (Same : Type 0) → (Same → after ≡ mine)
+      → ((stepped : HasStepped m byte_at mine after step answer n) × IsAllWritten m byte_at h stepped.gone.log) ⊎ ((keeps ≡ true) × (answer ≡ replies.Refused kind.Memory step) × Same)
+      → IsMade m byte_at keeps mine after step answer
+  looked_made mine after step answer n h keeps Same seen (inl looked) = inl (n, looked.0)
+  looked_made mine after step answer n h keeps Same seen (inr none) = inr (none.0, none.1, seen none.2)
 
   pub made_as : (mine after : View (Told K V P A D)) (step : Step K V P A) (answer : Reply K V P A) (keeps : Bool) (Same : Type 0) → (Same → after ≡ mine)
       → ((n : ℕ) × HasStepped m byte_at mine after step answer n) ⊎ ((keeps ≡ true) × (answer ≡ replies.Refused kind.Memory step) × Same) → IsMade m byte_at keeps mine after step answer

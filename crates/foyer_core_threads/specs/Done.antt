@@ -91,6 +91,14 @@ module _ {K V P A D : Type 0} (m : Meaning K V P) (byte_at : D → ℕ → ℕ �
       ((next : View (Told K V P A D)) × HasWrote mine next f block w replies.Next × HasWroteAll next after f block ws last)
       ⊎ ((answer : Reply K V P A) × HasWrote mine after f block w answer × (answer ≢ replies.Next) × (last ≡ Some answer))
 
+module _ {K V P A D : Type 0} (m : Meaning K V P) (byte_at : D → ℕ → ℕ → ℕ) where
+  -- A look-up issued a read, and was noted. Nothing was read.
+  pub record HasLookedOnly (mine after : View (Told K V P A D)) (old new : SessionState) (h : ℕ) (throttled : Bool) : Type 0 where
+    pub ticket : Ticket
+    pub number : ℕ
+    pub look_up : HasStepped m byte_at mine after (steps.LoadBegin h throttled) (replies.Read ticket) number
+    pub noted : IsNotedIn {K = K} {V = V} {P = P} {A = A} old new (steps.LoadBegin h throttled) (replies.Read ticket)
+
 -- What a load leaves in its session: the note of its look-up, and that of its end if it read.
 abbrev pub IsLoadNoted : {K V P A : Type 0} → (keeps : Bool) → (old new : SessionState) → (h : ℕ) → (throttled : Bool) → Reply K V P A → Type 0
 IsLoadNoted {K} {V} {P} {A} keeps old new h throttled answer =

@@ -13,7 +13,7 @@ ghost use Rattle.foyer_core_told.specs.ToldRights.{ticket_right};
 ghost use Rattle.foyer_core_told.specs.Telling.{HasGoneOn, HasStepped};
 ghost use Rattle.foyer_io_told.specs.ToldAccess.{HasTicket};
 ghost use Rattle.foyer_core_threads.specs.Asking.{IsLoadReply, IsTicketIn};
-ghost use Rattle.foyer_core_threads.specs.Done.{HasLoaded, IsLoadNoted};
+ghost use Rattle.foyer_core_threads.specs.Done.{HasLoaded, HasLookedOnly, IsLoadNoted};
 ghost use Rattle.foyer_core_threads.specs.Newest.{WasNewest, WasMissed, WasMissedWritten, WasPutLast};
 ghost use Rattle.foyer_core_threads.specs.Going.{GoesOn};
 
@@ -92,7 +92,8 @@ where
 
     /// Does a load as `load` does, if it is known that all queued pieces of the hash have left their flusher. Else does nothing, and gives
     /// `None`. At a moment between the call and the return, an answered entry was the newest put of its hash. No piece of the hash that had
-    /// been queued by then was newer, unless a batch had failed since or a destroy had cleared the index.
+    /// been queued by then was newer, unless a batch had failed since or a destroy had cleared the index. Errors: `Memory` if memory for the
+    /// read was refused. Then the look-up issued a ticket, and nothing was read.
     pub fn load_written(
         &self,
         rt: &impl Wait,
@@ -105,7 +106,8 @@ where
         requires part { 0 < session.old.session.shares.parts }
         ensures mine { (session.new.witness.table_id ≡ J.table) × (session.new.witness.me.1 ≡ []) }
         ensures on { GoesOn (meaning K.encoding V.encoding K.is_encodable V.is_encodable K.is_decodable V.is_decodable P.age) D.byte_at session.old.witness.me.0 session.new.witness.me.0 }
-        ensures refused { IfSome result (λ ended. IfErr ended (λ e. e ≡ Memory)) }
+        ensures told { IfSome result (λ ended. IfOk ended (λ answer. HasLoaded (meaning K.encoding V.encoding K.is_encodable V.is_encodable K.is_decodable V.is_decodable P.age) D.byte_at N.keeps session.old.witness.me.0 session.new.witness.me.0 hash throttled answer)) }
+        ensures refused { IfSome result (λ ended. IfErr ended (λ e. (e ≡ Memory) × HasLookedOnly (meaning K.encoding V.encoding K.is_encodable V.is_encodable K.is_decodable V.is_decodable P.age) D.byte_at session.old.witness.me.0 session.new.witness.me.0 session.old.session session.new.session hash throttled)) }
         ensures replied { IfSome result (λ ended. IfOk ended (IsLoadReply N.keeps throttled)) }
         ensures put_last { IfSome result (λ ended. IfOk ended (λ answer. (key : K) (value : V) (age : _) → answer ≡ reply.Entry key value age
             → WasPutLast (meaning K.encoding V.encoding K.is_encodable V.is_encodable K.is_decodable V.is_decodable P.age) D.byte_at session.old.witness.me.0.seen session.new.witness.me.0.seen hash (content (meaning K.encoding V.encoding K.is_encodable V.is_encodable K.is_decodable V.is_decodable P.age) key value))) }
