@@ -29,7 +29,9 @@ use Rattle.foyer_core_steps.specs.declared.reply.Reply.TheVariants as replies
 use Rattle.foyer_core_told.proofs.ToldRightLemmas.{rights_there}
 use Rattle.foyer_core_told.specs.ToldRights.{clean_right, rights_count, scan_right, writes_right}
 use Rattle.foyer_device_page.specs.declared.error.ErrorKind.TheVariants as kind
-use Rattle.foyer_core_shared.specs.Briefs.{brief_of, step_brief}
+use Rattle.foyer_core_shared.specs.Briefed.{IsNotedIn}
+use Rattle.foyer_core_shared.specs.Briefs.{brief_of, reply_brief, step_brief}
+use Rattle.foyer_core_shared.specs.declared.brief.ReplyBrief.{ReplyBrief}
 use Rattle.foyer_core_shared.specs.Kinds.{kind_of}
 use Rattle.foyer_core_shared.specs.Sessions.{SessionState, is_close, is_destroy}
 use Rattle.foyer_core_tally.specs.declared.kinds.Counts.{Counts}
@@ -37,10 +39,10 @@ use Rattle.foyer_core_tally.specs.declared.kinds.StepKind.TheVariants.{Other}
 use Rattle.foyer_core_threads.specs.Done.{AreNoted, IsNotedAgain}
 use Rattle.foyer_storage_engine.specs.Ending.{HoldsBut, HoldsButCloses, HoldsButDestroys, HoldsTally}
 use Rattle.foyer_storage_engine.proofs.HoldingLemmas.{closed_by_made, destroyed_by_made, destroys_on, held_but_same, held_by_refusal}
-use Rattle.std.proofs.Common.{◌≡◌, ◌⊎◌, inl, inr, ℕ, zero, suc, ◌+◌, ◌-◌, ◌<◌, ◌≤◌, ◌==◌, Bool, true, false, true≢false, Some, None, List, [], ◌∷◌, ◌++◌, refl, sym, ap, ◌∙◌, subst, append_assoc, append-nil, arith, Result, Ok, Err, OnOk, slice_get}
+use Rattle.std.proofs.Common.{◌≡◌, ◌⊎◌, inl, inr, ℕ, zero, suc, ◌+◌, ◌-◌, ◌<◌, ◌≤◌, ◌==◌, Bool, true, false, true≢false, Some, None, List, [], ◌∷◌, ◌++◌, refl, sym, ap, ◌∙◌, subst, append_assoc, append-nil, arith, Result, Ok, Err, IfErr, OnOk, slice_get}
 use Rattle.foyer_core_chronicle.specs.declared.View.{View}
 use Rattle.foyer_storage_history.specs.Releasing.{AnswersWait}
-use Rattle.foyer_storage_history.specs.HistoryCalls.{AreCleaned, IsAllDestroyed, IsCleared, IsDestroyed, IsEndAnswering, IsNewestAnswer, IsSeenBy, IsWaitedFor, cleared_as, is_nil}
+use Rattle.foyer_storage_history.specs.HistoryCalls.{AreCleaned, IsAllDestroyed, IsAnswerTo, IsCleared, IsDestroyed, IsEndAnswering, IsNewestAnswer, IsSeenBy, IsWaitedFor, cleared_as, is_nil}
 
 pub nil_is : {X : Type 0} (xs : List X) → is_nil xs ≡ true → xs ≡ []
 nil_is [] is = refl
@@ -79,6 +81,14 @@ pub ok_map2 : {X P Q R : Type 0} (result : Result X Error) → (P → Q → R) �
 ok_map2 (Ok x) so holds also = so holds also
 ok_map2 (Err e) so holds also = tt
 
+pub err_map : {X : Type 0} {P Q : Error → Type 0} (result : Result X Error) → ((e : Error) → P e → Q e) → IfErr result P → IfErr result Q
+err_map (Ok x) so holds = tt
+err_map (Err e) so holds = so e holds
+
+pub err_of : {X : Type 0} {P : Error → Type 0} (result : Result X Error) → ((e : Error) → P e) → IfErr result P
+err_of (Ok x) all = tt
+err_of (Err e) all = all e
+
 pub ok_cleared : {K V P So : Type 0} (reply : Reply K V P Global) (done : Result (Unit {0}) Error) → cleared_as reply ≡ Some done → (reply ≡ replies.Cleared → So) → OnOk done So
 ok_cleared {So = So} replies.Cleared done is so = subst (λ r. OnOk r So) (some_is is) (so refl)
 ok_cleared {So = So} (replies.Refused kind back) done is so = subst (λ r. OnOk r So) (some_is is) tt
@@ -116,6 +126,11 @@ closes_named old new step answer other kept (before, refused, noted) =
     let last = closed_by_made false before new step answer other kept (inl noted) in
     (tally_then old before new held.0 last.0, last.1 ∙ held.2 kept)
 
+-- the note of a step, if notes aren't kept
+pub noted_one : {K V P X Y : Type 0} (old new : SessionState) (step : Step K V P Global) (answer : Reply K V P Global) → IsNotedIn old new step answer ⊎ ((false ≡ true) × X × Y) → IsNotedIn old new step answer
+noted_one old new step answer (inl noted) = noted
+noted_one old new step answer (inr none) = absurd (true≢false (sym none.0))
+
 module _ {K V P D : Type 0} (m : Meaning K V P) (byte_at : D → ℕ → ℕ → ℕ) where
   pub goes_self : (v : View (Told K V P Global D)) → GoesOn m byte_at v v
   goes_self v = same_on m byte_at v v refl
@@ -131,6 +146,18 @@ module _ {K V P D : Type 0} (m : Meaning K V P) (byte_at : D → ℕ → ℕ →
       → HasStepped m byte_at mine after step answer n ⊎ ((false ≡ true) × X × Y) → HasStepped m byte_at mine after step answer n
   made_one mine after step answer n (inl stepped) = stepped
   made_one mine after step answer n (inr none) = absurd (true≢false (sym none.0))
+
+  -- a call that made one step
+  pub answer_to : {A X Y Z W : Type 0} (says : ReplyBrief → Result A Error) (mine after : View (Told K V P Global D)) (old new : SessionState) (step : Step K V P Global) (reply : Reply K V P Global) (n : ℕ) (answered : Result A Error)
+      → HasStepped m byte_at mine after step reply n ⊎ ((false ≡ true) × X × Y) → IsNotedIn old new step reply ⊎ ((false ≡ true) × Z × W) → new.shares.parts ≡ old.shares.parts → answered ≡ says (reply_brief reply)
+      → IsAnswerTo m byte_at says mine after old new step answered
+  answer_to says mine after old new step reply n answered stepped noted parts said = record {
+    reply = reply;
+    number = n;
+    stepped = made_one mine after step reply n stepped;
+    left = record { noted = noted_one old new step reply noted; parts = parts };
+    said = said;
+  }
 
   pub tried_sees : (mine after : View (Told K V P Global D)) (step : Step K V P Global) (answer : Reply K V P Global) (made : IsMadeAgain m byte_at mine after step answer) → IsSeenBy mine made.tried
   tried_sees mine after step answer made = sees mine made.tried (tried_on m byte_at made.times step mine made.tried made.refused)

@@ -1,8 +1,12 @@
 //! How a destroy begins.
-ghost use Rattle.std.specs.Prelude.{◌≡◌, OnOk, false};
+ghost use Rattle.std.specs.Prelude.{◌≡◌, ◌⊎◌, IfErr, OnOk, false, true};
 ghost use Rattle.foyer_core_laws.specs.Content.{meaning};
 ghost use Rattle.foyer_core_shared.specs.Briefs.{reply_brief};
+ghost use Rattle.foyer_core_shared.specs.Replies.{may_reply};
+ghost use Rattle.foyer_core_steps.specs.declared.step.Step.TheVariants as steps;
 ghost use Rattle.foyer_core_threads.specs.Going.{GoesOn};
+ghost use Rattle.foyer_device_page.specs.declared.error.Error.TheVariants as error;
+ghost use Rattle.foyer_storage_engine.specs.Answering.{is_draw_error};
 ghost use Rattle.foyer_storage_engine.specs.Ending.{HoldsButDestroys, is_refused};
 ghost use Rattle.foyer_storage_history.specs.HistoryCalls.{AsksToDestroy};
 
@@ -31,7 +35,8 @@ pub(crate) struct DestroyBegun {
 
 // What the reply to a `DestroyBegin` says.
 fn begun_of<K: Drop, V: Drop, P: Drop>(reply: Reply<K, V, P, Global>) -> Result<DestroyBegun>
-    ensures { OnOk result (is_refused (reply_brief reply) ≡ false) }
+    ensures taken { OnOk result (is_refused (reply_brief reply) ≡ false) }
+    ensures refused { may_reply steps.DestroyBegin reply ≡ true → IfErr result (λ e. (is_draw_error e ≡ true) ⊎ (e ≡ error.Unsupported)) }
 {
     match reply {
         Reply::Destroying(_) => Ok(DestroyBegun { is_first: true }),
@@ -61,6 +66,7 @@ where
     ensures on { GoesOn (meaning K.encoding V.encoding K.is_encodable V.is_encodable K.is_decodable V.is_decodable P.age) D.byte_at session.old.told.witness.me.0 session.new.told.witness.me.0 }
     ensures named { HoldsButDestroys session.old.told.session session.new.told.session }
     ensures parts { session.new.told.session.shares.parts ≡ session.old.told.session.shares.parts }
+    ensures refused { IfErr result (λ e. (is_draw_error e ≡ true) ⊎ (e ≡ error.Unsupported)) }
 {
     let reply = shared.ask_again(rt, &mut session.told, no_io(), Step::DestroyBegin);
     begun_of(reply)

@@ -1,20 +1,28 @@
 //! The engine.
-ghost use Rattle.std.specs.Prelude.{◌≡◌, ◌≢◌, ◌⊎◌, ◌+◌, ◌-◌, ◌<◌, [], IfErr, IfOk, false, true};
+ghost use Rattle.std.specs.Prelude.{◌≡◌, ◌≢◌, ◌⊎◌, ◌+◌, ◌-◌, ◌<◌, [], ◌∷◌, IfErr, IfOk, false, true};
+ghost use Rattle.foyer_block_recover.specs.Recovery.{marks_of};
+ghost use Rattle.foyer_block_recover.specs.declared.block.recover.RecoverMode.TheVariants as recover_mode;
 ghost use Rattle.foyer_core_chronicle.specs.SharedHistory.{newcomer};
 ghost use Rattle.foyer_core_laws.specs.Content.{content, meaning};
+ghost use Rattle.foyer_core_laws.specs.Sizes.{AreValid};
 ghost use Rattle.foyer_core_model.specs.Ids.{ids};
+ghost use Rattle.foyer_core_steps.specs.Opened.{IsOpenedFrom};
 ghost use Rattle.foyer_core_steps.specs.declared.reply.Reply.TheVariants as reply;
+ghost use Rattle.foyer_core_steps.specs.declared.state.Core.{Core};
 ghost use Rattle.foyer_core_steps.specs.declared.step.Step.TheVariants as steps;
 ghost use Rattle.foyer_core_tally.specs.Ledgers.{AreOf};
 ghost use Rattle.foyer_core_told.specs.ToldRights.{rights_count};
-ghost use Rattle.foyer_core_threads.specs.Asking.{IsLoadReply};
+ghost use Rattle.foyer_core_told.specs.ToldSteps.{IsOpeningOf};
+ghost use Rattle.foyer_core_threads.specs.Asking.{HasSizes, IsLoadReply};
+ghost use Rattle.foyer_core_threads.specs.Done.{HasLoaded, HasLookedOnly, IsLoadNoted};
 ghost use Rattle.foyer_core_threads.specs.Going.{GoesOn};
 ghost use Rattle.foyer_core_threads.specs.Newest.{WasMissedWritten, WasPutLast};
 ghost use Rattle.foyer_device_page.specs.declared.error.Error.TheVariants.{Config, Memory, Recover, SequenceEnd};
+ghost use Rattle.foyer_io_disk.specs.Disk.{SurelyCame};
 ghost use Rattle.foyer_storage_engine.specs.Answering.{asked_as, deleted_as, enqueued_as, is_draw_error, is_load_error, is_question_error};
 ghost use Rattle.foyer_storage_engine.specs.Keeping.{IsKeptWhereQueued};
 ghost use Rattle.foyer_storage_engine.specs.Kept.{reference_of};
-ghost use Rattle.foyer_storage_history.specs.HistoryCalls.{IsAnswerTo, IsEnqueued, IsNewestAnswer, IsSeenBy};
+ghost use Rattle.foyer_storage_history.specs.HistoryCalls.{IsAnswerTo, IsEnqueued, IsNewestLoad, IsSeenBy};
 
 mod calls;
 mod ends;
@@ -132,6 +140,12 @@ where
         ensures settings { IfOk result (λ r. r.0.settings ≡ settings) }
         ensures log { IfOk result (λ _. settings.tombstone_log ≡ false) }
         ensures parts { IfOk result (λ r. r.1.told.session.shares.parts ≡ L.all - 1) }
+        ensures seen { IfOk result (λ r. (core : Core K V P Global) × (over : D) × (e : _) × IsOpeningOf core over e × (r.1.told.witness.me.0.seen ≡ e ∷ [])
+            × (D.byte_at over ≡ D.byte_at disk)
+            × IsOpenedFrom settings (D.byte_at disk) (SurelyCame (D.surely_has disk) (D.surely_lies disk) (D.faults disk) (D.faults over)) mode (marks_of [])
+            ((mode ≡ recover_mode.None) ⊎ D.is_known disk) core) }
+        ensures sizes { IfOk result (λ r. HasSizes (meaning K.encoding V.encoding K.is_encodable V.is_encodable K.is_decodable V.is_decodable P.age) D.byte_at r.1.told.witness.me.0.seen settings) }
+        ensures sound { IfOk result (λ _. AreValid settings) }
         ensures refused { IfErr result (λ e. (e ≡ Memory) ⊎ ((e ≡ Config) ⊎ ((e ≡ Recover) ⊎ (e ≡ SequenceEnd)))) }
     {
         if settings.tombstone_log {
@@ -181,6 +195,7 @@ where
         requires fewer { parts < session.old.told.session.shares.parts }
         ensures parts { result.told.session.shares.parts ≡ parts }
         ensures seen { IsSeenBy session.old.told.witness.me.0 result.told.witness.me.0 }
+        ensures same { result.told.witness.me.0.seen ≡ session.old.told.witness.me.0.seen }
         ensures left { session.new.told.session.shares.parts ≡ session.old.told.session.shares.parts - parts }
         ensures on { GoesOn (meaning K.encoding V.encoding K.is_encodable V.is_encodable K.is_decodable V.is_decodable P.age) D.byte_at session.old.told.witness.me.0 session.new.told.witness.me.0 }
     {
@@ -194,6 +209,7 @@ where
         session: &mut HistorySession<J, L, K, V, P, D>,
         other: HistorySession<J, L, K, V, P, D>,
     )
+        ensures parts { session.new.told.session.shares.parts ≡ session.old.told.session.shares.parts + other.told.session.shares.parts }
         ensures seen { IsSeenBy other.told.witness.me.0 session.new.told.witness.me.0 }
         ensures on { GoesOn (meaning K.encoding V.encoding K.is_encodable V.is_encodable K.is_decodable V.is_decodable P.age) D.byte_at session.old.told.witness.me.0 session.new.told.witness.me.0 }
     {
@@ -237,9 +253,12 @@ where
             → WasPutLast (meaning K.encoding V.encoding K.is_encodable V.is_encodable K.is_decodable V.is_decodable P.age) D.byte_at session.old.told.witness.me.0.seen session.new.told.witness.me.0.seen hash (content (meaning K.encoding V.encoding K.is_encodable V.is_encodable K.is_decodable V.is_decodable P.age) key value)) }
         ensures missed { IfOk result (λ answer. answer ≡ reply.Miss
             → WasMissedWritten (meaning K.encoding V.encoding K.is_encodable V.is_encodable K.is_decodable V.is_decodable P.age) D.byte_at session.old.told.witness.me.0.seen session.new.told.witness.me.0.seen hash) }
+        ensures told { IfOk result (λ answer. HasLoaded (meaning K.encoding V.encoding K.is_encodable V.is_encodable K.is_decodable V.is_decodable P.age) D.byte_at false session.old.told.witness.me.0 session.new.told.witness.me.0 hash false answer) }
+        ensures noted { IfOk result (λ answer. IsLoadNoted false session.old.told.session session.new.told.session hash false answer) }
         ensures replied { IfOk result (IsLoadReply false false) }
         ensures on { GoesOn (meaning K.encoding V.encoding K.is_encodable V.is_encodable K.is_decodable V.is_decodable P.age) D.byte_at session.old.told.witness.me.0 session.new.told.witness.me.0 }
-        ensures refused { IfErr result (λ e. e ≡ Memory) }
+        ensures parts { session.new.told.session.shares.parts ≡ session.old.told.session.shares.parts }
+        ensures refused { IfErr result (λ e. (e ≡ Memory) × HasLookedOnly (meaning K.encoding V.encoding K.is_encodable V.is_encodable K.is_decodable V.is_decodable P.age) D.byte_at session.old.told.witness.me.0 session.new.told.witness.me.0 session.old.told.session session.new.told.session hash false) }
     {
         for _ in rt.forever() {
             let ended = self
@@ -263,7 +282,7 @@ where
         piece: &Piece<K, V, P, Global>,
         size: usize,
     ) -> Result<Enqueued>
-        ensures answer { IsEnqueued (meaning K.encoding V.encoding K.is_encodable V.is_encodable K.is_decodable V.is_decodable P.age) D.byte_at session.old.told.witness.me.0 session.new.told.witness.me.0 piece.now.hash size result }
+        ensures answer { IsEnqueued (meaning K.encoding V.encoding K.is_encodable V.is_encodable K.is_decodable V.is_decodable P.age) D.byte_at session.old.told.witness.me.0 session.new.told.witness.me.0 session.old.told.session session.new.told.session piece.now size result }
         ensures kept { IsKeptWhereQueued K.eq shard.old.map shard.new.map (reference_of piece.now (shard.old.last + 1)) result }
         ensures refused { IfErr result (λ e. is_draw_error e ≡ true) }
     {
@@ -287,7 +306,7 @@ where
         size: usize,
     ) -> Result<Enqueued>
         requires { shard.hash ≡ piece.now.hash }
-        ensures answer { IsEnqueued (meaning K.encoding V.encoding K.is_encodable V.is_encodable K.is_decodable V.is_decodable P.age) D.byte_at session.old.told.witness.me.0 session.new.told.witness.me.0 piece.now.hash size result }
+        ensures answer { IsEnqueued (meaning K.encoding V.encoding K.is_encodable V.is_encodable K.is_decodable V.is_decodable P.age) D.byte_at session.old.told.witness.me.0 session.new.told.witness.me.0 session.old.told.session session.new.told.session piece.now size result }
         ensures refused { IfErr result (λ e. is_draw_error e ≡ true) }
     {
         let lock = shard.lock();
@@ -304,7 +323,7 @@ where
         piece: &Piece<K, V, P, Global>,
         size: usize,
     ) -> Result<Enqueued>
-        ensures answer { IsEnqueued (meaning K.encoding V.encoding K.is_encodable V.is_encodable K.is_decodable V.is_decodable P.age) D.byte_at session.old.told.witness.me.0 session.new.told.witness.me.0 piece.now.hash size result }
+        ensures answer { IsEnqueued (meaning K.encoding V.encoding K.is_encodable V.is_encodable K.is_decodable V.is_decodable P.age) D.byte_at session.old.told.witness.me.0 session.new.told.witness.me.0 session.old.told.session session.new.told.session piece.now size result }
         ensures refused { IfErr result (λ e. is_draw_error e ≡ true) }
     {
         self.make_room(rt);
@@ -319,7 +338,7 @@ where
         session: &mut HistorySession<J, L, K, V, P, D>,
         hash: u64,
     ) -> Result<()>
-        ensures answer { IsAnswerTo (meaning K.encoding V.encoding K.is_encodable V.is_encodable K.is_decodable V.is_decodable P.age) D.byte_at deleted_as session.old.told.witness.me.0 session.new.told.witness.me.0 (steps.Delete hash) result }
+        ensures answer { IsAnswerTo (meaning K.encoding V.encoding K.is_encodable V.is_encodable K.is_decodable V.is_decodable P.age) D.byte_at deleted_as session.old.told.witness.me.0 session.new.told.witness.me.0 session.old.told.session session.new.told.session (steps.Delete hash) result }
         ensures refused { IfErr result (λ e. is_draw_error e ≡ true) }
     {
         self.make_room(rt);
@@ -336,7 +355,7 @@ where
         session: &mut HistorySession<J, L, K, V, P, D>,
         lacking: NotKept,
     ) -> Result<bool>
-        ensures answer { IsAnswerTo (meaning K.encoding V.encoding K.is_encodable V.is_encodable K.is_decodable V.is_decodable P.age) D.byte_at asked_as session.old.told.witness.me.0 session.new.told.witness.me.0 (steps.MayContains lacking.hash) result }
+        ensures answer { IsAnswerTo (meaning K.encoding V.encoding K.is_encodable V.is_encodable K.is_decodable V.is_decodable P.age) D.byte_at asked_as session.old.told.witness.me.0 session.new.told.witness.me.0 session.old.told.session session.new.told.session (steps.MayContains lacking.hash) result }
         ensures refused { IfErr result (λ e. is_question_error false e ≡ true) }
     {
         let step = Step::MayContains {
@@ -348,7 +367,8 @@ where
 
     /// Loads a hash of which a keeper had no piece, once it is known that all its queued pieces were written or given up. An entry was put
     /// last under its hash at a moment of the call, in the one history of all threads: it was the newest put, and no queued piece was
-    /// newer, unless a batch had failed since or a destroy had cleared the index. A miss has its cause there.
+    /// newer, unless a batch had failed since or a destroy had cleared the index. A miss has its cause there. The session makes a look-up,
+    /// and its end if it read, and no other step.
     #[tactic(auto, using(crate::proofs::HistoryLemmas::nil_is))]
     pub fn load_newest(
         &self,
@@ -356,7 +376,7 @@ where
         session: &mut HistorySession<J, L, K, V, P, D>,
         lacking: NotKept,
     ) -> Result<Load<K, V, P, Global>>
-        ensures newest { IsNewestAnswer (meaning K.encoding V.encoding K.is_encodable V.is_encodable K.is_decodable V.is_decodable P.age) D.byte_at session.old.told.witness.me.0 session.new.told.witness.me.0 lacking.hash result }
+        ensures newest { IsNewestLoad (meaning K.encoding V.encoding K.is_encodable V.is_encodable K.is_decodable V.is_decodable P.age) D.byte_at session.old.told.witness.me.0 session.new.told.witness.me.0 session.old.told.session session.new.told.session lacking.hash result }
         ensures on { GoesOn (meaning K.encoding V.encoding K.is_encodable V.is_encodable K.is_decodable V.is_decodable P.age) D.byte_at session.old.told.witness.me.0 session.new.told.witness.me.0 }
         ensures refused { IfErr result (λ e. is_load_error e ≡ true) }
     {

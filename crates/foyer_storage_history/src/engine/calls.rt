@@ -36,28 +36,30 @@ where
     ghost use Rattle.foyer_core_laws.specs.Content.{meaning};
     ghost use Rattle.foyer_core_steps.specs.declared.step.Step.TheVariants as steps;
     ghost use Rattle.foyer_core_threads.specs.Going.{GoesOn};
+    ghost use Rattle.foyer_device_page.specs.declared.error.Error.TheVariants as error;
     ghost use Rattle.foyer_policy_filter.specs.Verdict.{IsAdmit};
-    ghost use Rattle.foyer_storage_engine.specs.Answering.{asked_as, deleted_as};
+    ghost use Rattle.foyer_storage_engine.specs.Answering.{asked_as, deleted_as, is_draw_error};
     ghost use Rattle.foyer_storage_engine.specs.Ending.{HoldsButCloses, HoldsButDestroys};
-    ghost use Rattle.foyer_storage_history.specs.HistoryCalls.{IsAllDestroyed, IsAnswerTo, IsClosed, IsEnqueued, IsNewestAnswer, IsWaitedFor};
+    ghost use Rattle.foyer_storage_history.specs.HistoryCalls.{IsAllDestroyed, IsAnswerTo, IsClosed, IsEnqueued, IsNewestLoad, IsWaitedFor};
 
     ghost summary = { λ engine. record { capacity = min (engine.settings.blocks * engine.settings.block_size) (2 ^ 64 - 1); allocated = min (engine.settings.blocks * engine.settings.block_size) (2 ^ 64 - 1); partitions = engine.settings.blocks } };
 
     ghost may_judge = { λ _ _ _ verdict. IsAdmit verdict };
 
-    ghost may_enqueue = { λ _ old new hash size answer. IsEnqueued (meaning K.encoding V.encoding K.is_encodable V.is_encodable K.is_decodable V.is_decodable P.age) D.byte_at old.told.witness.me.0 new.told.witness.me.0 hash size answer };
+    ghost may_enqueue = { λ _ old new piece size answer. IsEnqueued (meaning K.encoding V.encoding K.is_encodable V.is_encodable K.is_decodable V.is_decodable P.age) D.byte_at old.told.witness.me.0 new.told.witness.me.0 old.told.session new.told.session piece size answer };
 
-    ghost may_load = { λ _ old new hash answer. IsNewestAnswer (meaning K.encoding V.encoding K.is_encodable V.is_encodable K.is_decodable V.is_decodable P.age) D.byte_at old.told.witness.me.0 new.told.witness.me.0 hash answer };
+    ghost may_load = { λ _ old new hash answer. IsNewestLoad (meaning K.encoding V.encoding K.is_encodable V.is_encodable K.is_decodable V.is_decodable P.age) D.byte_at old.told.witness.me.0 new.told.witness.me.0 old.told.session new.told.session hash answer };
 
-    ghost may_delete = { λ _ old new hash answer. IsAnswerTo (meaning K.encoding V.encoding K.is_encodable V.is_encodable K.is_decodable V.is_decodable P.age) D.byte_at deleted_as old.told.witness.me.0 new.told.witness.me.0 (steps.Delete hash) answer };
+    ghost may_delete = { λ _ old new hash answer. IsAnswerTo (meaning K.encoding V.encoding K.is_encodable V.is_encodable K.is_decodable V.is_decodable P.age) D.byte_at deleted_as old.told.witness.me.0 new.told.witness.me.0 old.told.session new.told.session (steps.Delete hash) answer };
 
-    ghost may_ask = { λ _ old new hash answer. IsAnswerTo (meaning K.encoding V.encoding K.is_encodable V.is_encodable K.is_decodable V.is_decodable P.age) D.byte_at asked_as old.told.witness.me.0 new.told.witness.me.0 (steps.MayContains hash) answer };
+    ghost may_ask = { λ _ old new hash answer. IsAnswerTo (meaning K.encoding V.encoding K.is_encodable V.is_encodable K.is_decodable V.is_decodable P.age) D.byte_at asked_as old.told.witness.me.0 new.told.witness.me.0 old.told.session new.told.session (steps.MayContains hash) answer };
 
-    ghost may_wait = { λ engine old new answer. (new.told.session ≡ old.told.session) × OnOk answer ((flusher : ℕ) → flusher < engine.settings.flushers → IsWaitedFor (meaning K.encoding V.encoding K.is_encodable V.is_encodable K.is_decodable V.is_decodable P.age) D.byte_at old.told.witness.me.0 new.told.witness.me.0 flusher) };
+    ghost may_wait = { λ engine old new answer. (new.told.session ≡ old.told.session) × OnOk answer ((flusher : ℕ) → flusher < engine.settings.flushers → IsWaitedFor (meaning K.encoding V.encoding K.is_encodable V.is_encodable K.is_decodable V.is_decodable P.age) D.byte_at old.told.witness.me.0 new.told.witness.me.0 flusher) × IfErr answer (λ e. (is_draw_error e ≡ true) ⊎ (e ≡ error.Unsupported)) };
 
-    ghost may_close = { λ engine old new answer. HoldsButCloses old.told.session new.told.session × OnOk answer (IsClosed (meaning K.encoding V.encoding K.is_encodable V.is_encodable K.is_decodable V.is_decodable P.age) D.byte_at old.told.witness.me.0 new.told.witness.me.0 engine.settings.flushers) };
+    ghost may_close = { λ engine old new answer. HoldsButCloses old.told.session new.told.session × (new.told.session.shares.parts ≡ old.told.session.shares.parts) × OnOk answer (IsClosed (meaning K.encoding V.encoding K.is_encodable V.is_encodable K.is_decodable V.is_decodable P.age) D.byte_at old.told.witness.me.0 new.told.witness.me.0 engine.settings.flushers) × IfErr answer (λ e. (is_draw_error e ≡ true) ⊎ (e ≡ error.Unsupported)) };
 
-    ghost may_destroy = { λ engine old new answer. HoldsButDestroys old.told.session new.told.session × OnOk answer (IsAllDestroyed (meaning K.encoding V.encoding K.is_encodable V.is_encodable K.is_decodable V.is_decodable P.age) D.byte_at old.told.witness.me.0 new.told.witness.me.0 answer) };
+    ghost may_destroy = { λ engine old new answer. HoldsButDestroys old.told.session new.told.session × (new.told.session.shares.parts ≡ old.told.session.shares.parts) × OnOk answer (IsAllDestroyed (meaning K.encoding V.encoding K.is_encodable V.is_encodable K.is_decodable V.is_decodable P.age) D.byte_at old.told.witness.me.0 new.told.witness.me.0 answer)
+        × IfErr answer (λ e. (is_draw_error e ≡ true) ⊎ ((e ≡ error.Unsupported) ⊎ IsAllDestroyed (meaning K.encoding V.encoding K.is_encodable V.is_encodable K.is_decodable V.is_decodable P.age) D.byte_at old.told.witness.me.0 new.told.witness.me.0 answer)) };
 
     fn device(&self) -> DeviceSummary {
         let settings = self.settings;

@@ -137,7 +137,8 @@ where
     }
 
     /// Destroys all entries: what was put before is gone. The session counts no put, delete, load or close. Errors: `Closed` after a close;
-    /// `SequenceEnd` if no step or sequence is left; the kind of the first clean that failed, `Io` or `Memory`.
+    /// `SequenceEnd` if no step or sequence is left; the kind of the first clean that failed, `Io` or `Memory`. An error of another kind than
+    /// `Closed`, `Memory`, `SequenceEnd` and `Unsupported` answers the report of the last block's clean.
     #[tactic(auto, using(crate::proofs::HistoryLemmas::nil_is, crate::proofs::HistoryLemmas::goes_on))]
     pub fn destroy_all(
         &self,
@@ -148,6 +149,7 @@ where
         ensures on { GoesOn (meaning K.encoding V.encoding K.is_encodable V.is_encodable K.is_decodable V.is_decodable P.age) D.byte_at session.old.told.witness.me.0 session.new.told.witness.me.0 }
         ensures named { HoldsButDestroys session.old.told.session session.new.told.session }
         ensures parts { session.new.told.session.shares.parts ≡ session.old.told.session.shares.parts }
+        ensures refused { IfErr result (λ e. (is_draw_error e ≡ true) ⊎ ((e ≡ error.Unsupported) ⊎ IsAllDestroyed (meaning K.encoding V.encoding K.is_encodable V.is_encodable K.is_decodable V.is_decodable P.age) D.byte_at session.old.told.witness.me.0 session.new.told.witness.me.0 result)) }
     {
         let mut maintainer = lock_spinning(&self.maintainer, rt);
         let begun = match begin_destroy(rt, &self.shared, session) {

@@ -1,11 +1,14 @@
 //! How all is destroyed.
-ghost use Rattle.std.specs.Prelude.{◌≡◌, ◌-◌, ◌^◌, ◌<◌, ℕ, [], OnOk};
+ghost use Rattle.std.specs.Prelude.{◌≡◌, ◌⊎◌, ◌-◌, ◌^◌, ◌<◌, ℕ, [], IfErr, IfSome, OnOk, true};
 ghost use Rattle.foyer_core_laws.specs.Content.{meaning};
 ghost use Rattle.foyer_core_model.specs.Access.{CleanIssued};
+ghost use Rattle.foyer_core_shared.specs.Replies.{may_reply};
 ghost use Rattle.foyer_core_steps.specs.declared.reply.Reply.TheVariants as reply;
 ghost use Rattle.foyer_core_steps.specs.declared.step.Step.TheVariants as steps;
 ghost use Rattle.foyer_core_threads.specs.Going.{GoesOn, IsMadeAgain};
+ghost use Rattle.foyer_device_page.specs.declared.error.Error.TheVariants as error;
 ghost use Rattle.foyer_io_told.specs.ToldAccess.{HasClean};
+ghost use Rattle.foyer_storage_engine.specs.Answering.{is_draw_error};
 ghost use Rattle.foyer_storage_history.specs.HistoryCalls.{AreCleaned, IsAllDestroyed, IsCleared, IsDestroyed, cleared_as, destroyed_as};
 
 use super::{Flushed, HistoryCore, Maintainer};
@@ -42,7 +45,8 @@ fn destroyed_of<K: Drop, V: Drop, P: Drop>(reply: Reply<K, V, P, Global>) -> Res
 
 // The answer of a destroy's clear, or `None` if the clear is to be tried again.
 fn cleared_of<K: Drop, V: Drop, P: Drop>(reply: Reply<K, V, P, Global>) -> Option<Result<()>>
-    ensures { result ≡ cleared_as reply }
+    ensures answer { result ≡ cleared_as reply }
+    ensures refused { may_reply steps.DestroyClear reply ≡ true → IfSome result (λ done. IfErr done (λ e. is_draw_error e ≡ true)) }
 {
     match reply {
         Reply::Cleared => Some(Ok(())),
@@ -100,6 +104,7 @@ where
         ensures told { IsMadeAgain (meaning K.encoding V.encoding K.is_encodable V.is_encodable K.is_decodable V.is_decodable P.age) D.byte_at self.old.told.witness.me.0 self.new.told.witness.me.0 steps.DestroyClear result }
         ensures issued { (block : ℕ) → block < self.old.settings.blocks → result ≡ reply.Cleared
             → HasClean (meaning K.encoding V.encoding K.is_encodable V.is_encodable K.is_decodable V.is_decodable P.age) D.byte_at self.new.told.witness.me.0.seen block CleanIssued }
+        ensures replied { may_reply steps.DestroyClear result ≡ true }
         ensures settings { self.new.settings ≡ self.old.settings }
     {
         shared.clear(rt, &mut self.told)
@@ -141,6 +146,7 @@ where
         C: StorageFilterCondition,
         ensures on { GoesOn (meaning K.encoding V.encoding K.is_encodable V.is_encodable K.is_decodable V.is_decodable P.age) D.byte_at self.old.told.witness.me.0 self.new.told.witness.me.0 }
         ensures cleared { OnOk result (IsCleared (meaning K.encoding V.encoding K.is_encodable V.is_encodable K.is_decodable V.is_decodable P.age) D.byte_at self.old.told.witness.me.0 self.new.told.witness.me.0 self.old.settings.blocks) }
+        ensures refused { IfErr result (λ e. is_draw_error e ≡ true) }
         ensures settings { self.new.settings ≡ self.old.settings }
     {
         'tries: for _ in rt.forever() {
@@ -191,6 +197,7 @@ where
         ensures on { GoesOn (meaning K.encoding V.encoding K.is_encodable V.is_encodable K.is_decodable V.is_decodable P.age) D.byte_at self.old.told.witness.me.0 self.new.told.witness.me.0 }
         ensures cleaned { 0 < self.old.settings.blocks → AreCleaned (meaning K.encoding V.encoding K.is_encodable V.is_encodable K.is_decodable V.is_decodable P.age) D.byte_at self.old.told.witness.me.0 self.new.told.witness.me.0 (self.old.settings.blocks - 1) result }
         ensures some { OnOk result (0 < self.old.settings.blocks) }
+        ensures refused { IfErr result (λ e. (e ≡ error.Unsupported) ⊎ (0 < self.old.settings.blocks)) }
         ensures settings { self.new.settings ≡ self.old.settings }
     {
         let mut ended = Err(Error::Unsupported);
@@ -220,6 +227,7 @@ where
         ensures mine { (caller.new.witness.table_id ≡ J.table) × (caller.new.witness.me.1 ≡ []) × (caller.new.session ≡ caller.old.session) }
         ensures blocks { OnOk result (IsDestroyed (meaning K.encoding V.encoding K.is_encodable V.is_encodable K.is_decodable V.is_decodable P.age) D.byte_at caller.old.witness.me.0 caller.new.witness.me.0 (self.old.settings.blocks - 1) result) }
         ensures destroyed { OnOk result (IsAllDestroyed (meaning K.encoding V.encoding K.is_encodable V.is_encodable K.is_decodable V.is_decodable P.age) D.byte_at caller.old.witness.me.0 caller.new.witness.me.0 result) }
+        ensures refused { IfErr result (λ e. (is_draw_error e ≡ true) ⊎ ((e ≡ error.Unsupported) ⊎ IsAllDestroyed (meaning K.encoding V.encoding K.is_encodable V.is_encodable K.is_decodable V.is_decodable P.age) D.byte_at caller.old.witness.me.0 caller.new.witness.me.0 result)) }
         ensures on { GoesOn (meaning K.encoding V.encoding K.is_encodable V.is_encodable K.is_decodable V.is_decodable P.age) D.byte_at caller.old.witness.me.0 caller.new.witness.me.0 }
         ensures settings { self.new.settings ≡ self.old.settings }
     {

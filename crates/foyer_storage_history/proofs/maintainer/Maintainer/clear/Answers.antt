@@ -7,7 +7,7 @@ use Rattle.foyer_storage_history.proofs.maintainer.Maintainer.clear.Goals as goa
 
 pub returns-in-Some-cleared_of-clause-cleared : goal.returns-in-Some-cleared_of-clause-cleared
 returns-in-Some-cleared_of-clause-cleared g c =
-    ok_cleared c.try_clear.result c.in-Some-cleared_of.done (sym c.cleared_of.ensures ∙ c.in-Some-cleared_of.is) (λ is.
+    ok_cleared c.try_clear.result c.in-Some-cleared_of.done (sym c.cleared_of.ensures.answer ∙ c.in-Some-cleared_of.is) (λ is.
     subst (λ (t : Settings). IsCleared (meaning g.K.Code.encoding g.V.Code.encoding g.K.Code.is_encodable g.V.Code.is_encodable g.K.Code.is_decodable g.V.Code.is_decodable g.P.Properties.age) g.D.Disk.byte_at c.args.self.now.told.witness.me.0 c.try_clear.new.self.told.witness.me.0 t.blocks) (c.drain_all.ensures.settings ∙ c.tries.invariant.1)
     (cleared_after (meaning g.K.Code.encoding g.V.Code.encoding g.K.Code.is_encodable g.V.Code.is_encodable g.K.Code.is_decodable g.V.Code.is_decodable g.P.Properties.age) g.D.Disk.byte_at c.args.self.now.told.witness.me.0 c.drain_all.new.self.told.witness.me.0 c.try_clear.new.self.told.witness.me.0 c.drain_all.new.self.settings.blocks c.try_clear.result
     (goes_on (meaning g.K.Code.encoding g.V.Code.encoding g.K.Code.is_encodable g.V.Code.is_encodable g.K.Code.is_decodable g.V.Code.is_decodable g.P.Properties.age) g.D.Disk.byte_at c.args.self.now.told.witness.me.0 c.tries.self.told.witness.me.0 c.drain_all.new.self.told.witness.me.0 c.tries.invariant.0 c.drain_all.ensures.on) c.try_clear.ensures.told is c.try_clear.ensures.issued))
