@@ -102,10 +102,10 @@ class Cache:
         fault = getattr(self, "_fault", None)
         text = "the program ended with status %d%s%s" % (status, ": " + said if said else "", ", after " + fault if fault else "")
         with self._known:
-            self._ended = CacheEnded(text)
+            self._ended = text
             left, self._waiting = self._waiting, {}
         for future in left.values():
-            future.set_exception(self._ended)
+            future.set_exception(CacheEnded(text))
 
     def _send(self, kind, key=b"", value=b""):
         future = Future()
@@ -117,7 +117,7 @@ class Cache:
         with self._sending:
             with self._known:
                 if self._ended:
-                    raise self._ended
+                    raise CacheEnded(self._ended)
                 if len(key) > self._limits["key"]:
                     future.set_result((LONG_KEY[kind], b""))
                     return future
@@ -125,7 +125,7 @@ class Cache:
             frame = b"".join((REQUEST.pack(kind, number, len(key), len(value)), key, value))
             with self._known:
                 if self._ended:
-                    raise self._ended
+                    raise CacheEnded(self._ended)
                 self._waiting[number] = future
             try:
                 view = memoryview(frame)

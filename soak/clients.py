@@ -5,7 +5,7 @@ examples of docs/PIPE.md and of examples/.
 The C client is built with all warnings as errors, and its example with sanitizers, and run under valgrind if that is there. The cases:
 round trips of random bytes; thousands of gets at once; a reopening, with and without a log of deletes; a device that is full; limits;
 threads that share a cache; two caches of one process; keys and values that are too long; bad words; a killed program; a killed caller.
-Ends with status 0 if all held.
+Only for the client in Python: tasks that share a cache; errors that are new ones. Ends with status 0 if all held.
 
 usage: clients.py [--program FILE] [--seed N]
 """
@@ -22,6 +22,7 @@ import sys
 import tempfile
 import threading
 import time
+import traceback
 
 TOP = os.path.dirname(os.path.dirname(os.path.abspath(__file__)))
 CLIENTS = TOP + "/clients"
@@ -129,6 +130,15 @@ def own_programs():
         except (FileNotFoundError, ProcessLookupError):
             pass
     return mine
+
+
+def raised(call):
+    """What a call raises, or None."""
+    try:
+        call()
+    except BaseException as why:
+        return why
+    return None
 
 
 def refused(kind, call):
@@ -351,6 +361,18 @@ def killed_program(opened, rnd, room):
         check(cache.close() != 0, "a killed program ends well")
 
 
+def ended_anew(opened, rnd, room):
+    if opened.kind != "Python":
+        return
+    cache = opened(":memory:", 1 << 24, 1 << 20)
+    os.kill(own_programs()[0], signal.SIGKILL)
+    errors = [raised(lambda: cache.get(b"k")) for _ in range(100)]
+    check(all(isinstance(it, CacheEnded) for it in errors), "a killed program answers")
+    depth = max(len(list(traceback.walk_tb(it.__traceback__))) for it in errors)
+    check(depth < 10 and len(set(map(id, errors))) == 100, "an error is raised again, and keeps the frames of all calls: %d" % depth)
+    cache.close()
+
+
 def killed_caller(opened, rnd, room):
     text = "import sys, os; sys.path.insert(0, %r); import clients; clients.put_on(%r, %r, %r, %r)"
     words = [TOP + "/soak", opened.kind, opened.program, room + "/caller", opened.library]
@@ -381,7 +403,7 @@ def put_on(kind, program, place, library):
 
 CASES = [
     round_trips, thousands_at_once, reopenings, full_device, limits, threads_share, tasks_share, two_caches, one_holder, too_long, bad_words,
-    killed_program, killed_caller,
+    killed_program, ended_anew, killed_caller,
 ]
 
 
