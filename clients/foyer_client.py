@@ -68,8 +68,19 @@ class Cache:
         self._reader.start()
         self._call(b"h", b"")  # waits until the cache is open; raises CacheEnded if it can't be opened
 
-    # Reads replies, and gives each to the call that waits for it.
+    # Reads replies until the program ends, and then ends all calls. If the thread has an error, such as a MemoryError, it ends the program.
     def _read(self):
+        try:
+            self._read_replies()
+        except BaseException:
+            self._fault = "an error in the thread that reads replies"
+            self._program.kill()
+            raise
+        finally:
+            self._end()
+
+    # Gives each reply to the call that waits for it.
+    def _read_replies(self):
         stream, buffer = self._program.stdout, bytearray()
         while True:
             more = stream.read(1 << 20)
@@ -85,7 +96,6 @@ class Cache:
                 self._give(number, code, bytes(buffer[at + REPLY.size:end]))
                 at = end
             del buffer[:at]
-        self._end()
 
     def _give(self, number, code, found):
         with self._known:
@@ -95,17 +105,24 @@ class Cache:
         if future is not None:
             future.set_result((code, found))
 
+    # Ends all calls.
     def _end(self):
+        text = "the program ended"
+        try:
+            text = self._last_words()
+        finally:
+            with self._known:
+                self._ended = text
+                left, self._waiting = self._waiting, {}
+            for future in left.values():
+                future.set_exception(CacheEnded(text))
+
+    def _last_words(self):
         status = self._program.wait()
         self._errors.seek(0)
         said = self._errors.read().decode("utf-8", "replace").strip()
         fault = getattr(self, "_fault", None)
-        text = "the program ended with status %d%s%s" % (status, ": " + said if said else "", ", after " + fault if fault else "")
-        with self._known:
-            self._ended = text
-            left, self._waiting = self._waiting, {}
-        for future in left.values():
-            future.set_exception(CacheEnded(text))
+        return "the program ended with status %d%s%s" % (status, ": " + said if said else "", ", after " + fault if fault else "")
 
     def _send(self, kind, key=b"", value=b""):
         future = Future()

@@ -5,7 +5,7 @@ examples of docs/PIPE.md and of examples/.
 The C client is built with all warnings as errors, and its example with sanitizers, and run under valgrind if that is there. The cases:
 round trips of random bytes; thousands of gets at once; a reopening, with and without a log of deletes; a device that is full; limits;
 threads that share a cache; two caches of one process; keys and values that are too long; bad words; a killed program; a killed caller.
-Only for the client in Python: tasks that share a cache; errors that are new ones. Ends with status 0 if all held.
+Only for the client in Python: tasks that share a cache; errors that are new ones; a thread that can't read replies. Ends with status 0 if all held.
 
 usage: clients.py [--program FILE] [--seed N]
 """
@@ -147,6 +147,16 @@ def refused(kind, call):
     except kind:
         return True
     return False
+
+
+def in_time(call):
+    """What a call gives, if it doesn't hang."""
+    given = []
+    thread = threading.Thread(target=lambda: given.append(call()), daemon=True)
+    thread.start()
+    thread.join(60)
+    check(given, "a call hangs")
+    return given[0]
 
 
 def values(rnd, count, sizes):
@@ -373,6 +383,23 @@ def ended_anew(opened, rnd, room):
     cache.close()
 
 
+def failed_reader(opened, rnd, room):
+    if opened.kind != "Python":
+        return
+    cache = opened(":memory:", 1 << 24, 1 << 20)
+
+    def fail(*_):
+        raise MemoryError
+
+    said, before = [], threading.excepthook
+    threading.excepthook, cache._give = lambda it: said.append(it.exc_type), fail
+    for _ in range(2):
+        error = in_time(lambda: raised(lambda: cache.get(b"k")))
+        check(isinstance(error, CacheEnded) and "an error in the thread" in str(error), "replies can't be read: %r" % error)
+    check(cache.close() != 0 and not own_programs() and said == [MemoryError], "a program goes on whose replies can't be read")
+    threading.excepthook = before
+
+
 def killed_caller(opened, rnd, room):
     text = "import sys, os; sys.path.insert(0, %r); import clients; clients.put_on(%r, %r, %r, %r)"
     words = [TOP + "/soak", opened.kind, opened.program, room + "/caller", opened.library]
@@ -403,7 +430,7 @@ def put_on(kind, program, place, library):
 
 CASES = [
     round_trips, thousands_at_once, reopenings, full_device, limits, threads_share, tasks_share, two_caches, one_holder, too_long, bad_words,
-    killed_program, ended_anew, killed_caller,
+    killed_program, ended_anew, failed_reader, killed_caller,
 ]
 
 
