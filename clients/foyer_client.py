@@ -14,6 +14,7 @@ import struct
 import subprocess
 import tempfile
 import threading
+import weakref
 from concurrent.futures import Future, ThreadPoolExecutor
 
 DONE, ENTRY, MISS, IGNORED, DELETED, THROTTLED, YES, NO = range(8)
@@ -52,9 +53,37 @@ def _give_deleted(future, deleted):
         future.set_result((DELETED if code == DONE else code, found))
 
 
+# Reads replies until the program ends, and then ends all calls. If the thread has an error, such as a MemoryError, it ends the program. It
+# holds the cache only while it has a reply for it, so that a cache that nobody has any more goes away.
+def _read(known, program):
+    buffer, fault = bytearray(), None
+    try:
+        while True:
+            more = program.stdout.read(1 << 20)
+            if not more:
+                break
+            cache = known()
+            if cache is not None:
+                buffer += more
+                cache._take(buffer)
+            del cache
+    except BaseException:
+        fault = "an error in the thread that reads replies"
+        program.kill()
+        raise
+    finally:
+        cache = known()
+        if cache is None:
+            program.wait()
+        else:
+            cache._end(fault)
+
+
 class Cache:
     """A cache in a directory, or in memory for the directory `:memory:`. Options are those of the program: flushers=2, log=1, ..
     A key that is longer than the option key=N is never in the cache, and a value that is longer than value=N is never taken."""
+
+    _program = _fault = None
 
     def __init__(self, program, directory, capacity, block_size=1 << 24, **options):
         self._limits = {name: int(options.get(name, usual)) for name, usual in LIMITS.items()}
@@ -64,38 +93,31 @@ class Cache:
         self._sending = threading.Lock()
         self._known = threading.Lock()
         self._waiting, self._number, self._ended = {}, 0, None
-        self._reader = threading.Thread(target=self._read, daemon=True)
-        self._reader.start()
-        self._call(b"h", b"")  # waits until the cache is open; raises CacheEnded if it can't be opened
-
-    # Reads replies until the program ends, and then ends all calls. If the thread has an error, such as a MemoryError, it ends the program.
-    def _read(self):
+        self._reader = threading.Thread(target=_read, args=(weakref.ref(self), self._program), daemon=True)
         try:
-            self._read_replies()
+            self._reader.start()
+            self._call(b"h", b"")  # waits until the cache is open; raises CacheEnded if it can't be opened
         except BaseException:
-            self._fault = "an error in the thread that reads replies"
             self._program.kill()
+            self._program.wait()
             raise
-        finally:
-            self._end()
 
-    # Gives each reply to the call that waits for it.
-    def _read_replies(self):
-        stream, buffer = self._program.stdout, bytearray()
-        while True:
-            more = stream.read(1 << 20)
-            if not more:
+    # If nobody has the cache any more, its program writes what is queued, and ends.
+    def __del__(self):
+        if self._program is not None:
+            self._program.stdin.close()
+
+    # Gives each reply that was read whole to the call that waits for it.
+    def _take(self, buffer):
+        at = 0
+        while len(buffer) - at >= REPLY.size:
+            number, code, length = REPLY.unpack_from(buffer, at)
+            end = at + REPLY.size + length
+            if len(buffer) < end:
                 break
-            buffer += more
-            at = 0
-            while len(buffer) - at >= REPLY.size:
-                number, code, length = REPLY.unpack_from(buffer, at)
-                end = at + REPLY.size + length
-                if len(buffer) < end:
-                    break
-                self._give(number, code, bytes(buffer[at + REPLY.size:end]))
-                at = end
-            del buffer[:at]
+            self._give(number, code, bytes(buffer[at + REPLY.size:end]))
+            at = end
+        del buffer[:at]
 
     def _give(self, number, code, found):
         with self._known:
@@ -106,10 +128,10 @@ class Cache:
             future.set_result((code, found))
 
     # Ends all calls.
-    def _end(self):
+    def _end(self, fault):
         text = "the program ended"
         try:
-            text = self._last_words()
+            text = self._last_words(fault or self._fault)
         finally:
             with self._known:
                 self._ended = text
@@ -117,11 +139,10 @@ class Cache:
             for future in left.values():
                 future.set_exception(CacheEnded(text))
 
-    def _last_words(self):
+    def _last_words(self, fault):
         status = self._program.wait()
         self._errors.seek(0)
         said = self._errors.read().decode("utf-8", "replace").strip()
-        fault = getattr(self, "_fault", None)
         return "the program ended with status %d%s%s" % (status, ": " + said if said else "", ", after " + fault if fault else "")
 
     def _send(self, kind, key=b"", value=b""):
@@ -235,6 +256,12 @@ class Cache:
         self.close()
 
 
+# Closes a cache that is open only after nobody waits for it any more.
+def _close_opened(opening):
+    if not opening.cancelled() and opening.exception() is None:
+        opening.result().close()
+
+
 class AsyncCache:
     """The calls of Cache for asyncio, except get_many and put_many: `async with AsyncCache(program, directory, capacity) as cache`. Any
     number may be under way at once. Calls that one task makes one after the other keep their order."""
@@ -291,7 +318,12 @@ class AsyncCache:
         return status
 
     async def __aenter__(self):
-        self._cache = await self._run(self._open)
+        opening = self._thread.submit(self._open)
+        try:
+            self._cache = await asyncio.wrap_future(opening)
+        except BaseException:
+            opening.add_done_callback(_close_opened)
+            raise
         return self
 
     async def __aexit__(self, *_):

@@ -5,12 +5,14 @@ examples of docs/PIPE.md and of examples/.
 The C client is built with all warnings as errors, and its example with sanitizers, and run under valgrind if that is there. The cases:
 round trips of random bytes; thousands of gets at once; a reopening, with and without a log of deletes; a device that is full; limits;
 threads that share a cache; two caches of one process; keys and values that are too long; bad words; a killed program; a killed caller.
-Only for the client in Python: tasks that share a cache; errors that are new ones; a thread that can't read replies. Ends with status 0 if all held.
+Only for the client in Python: tasks that share a cache; errors that are new ones; a thread that can't read replies; openings and caches that
+are abandoned. Ends with status 0 if all held.
 
 usage: clients.py [--program FILE] [--seed N]
 """
 import argparse
 import asyncio
+import contextlib
 import ctypes
 import os
 import random
@@ -157,6 +159,27 @@ def in_time(call):
     thread.join(60)
     check(given, "a call hangs")
     return given[0]
+
+
+@contextlib.contextmanager
+def alarm(seconds, handler):
+    """Calls a handler of a signal after so many seconds."""
+    before = signal.signal(signal.SIGALRM, handler)
+    signal.setitimer(signal.ITIMER_REAL, seconds)
+    try:
+        yield
+    finally:
+        signal.setitimer(signal.ITIMER_REAL, 0)
+        signal.signal(signal.SIGALRM, before)
+
+
+def raising(error):
+    """A call that raises an error, whatever its words are."""
+
+    def fail(*_):
+        raise error
+
+    return fail
 
 
 def values(rnd, count, sizes):
@@ -387,17 +410,37 @@ def failed_reader(opened, rnd, room):
     if opened.kind != "Python":
         return
     cache = opened(":memory:", 1 << 24, 1 << 20)
-
-    def fail(*_):
-        raise MemoryError
-
     said, before = [], threading.excepthook
-    threading.excepthook, cache._give = lambda it: said.append(it.exc_type), fail
+    threading.excepthook, cache._give = lambda it: said.append(it.exc_type), raising(MemoryError())
     for _ in range(2):
         error = in_time(lambda: raised(lambda: cache.get(b"k")))
         check(isinstance(error, CacheEnded) and "an error in the thread" in str(error), "replies can't be read: %r" % error)
     check(cache.close() != 0 and not own_programs() and said == [MemoryError], "a program goes on whose replies can't be read")
     threading.excepthook = before
+
+
+def abandoned(opened, rnd, room):
+    if opened.kind != "Python":
+        return
+
+    def ask():
+        return opened(room + "/abandoned", 1 << 24, 1 << 20)
+
+    async def ask_and_cancel():
+        await asyncio.wait_for(foyer_client.AsyncCache(opened.program, room + "/abandoned", 1 << 24, 1 << 20).__aenter__(), 0.3)
+
+    with ask() as cache:  # an opening waits while the directory is in use
+        mine = own_programs()
+        with alarm(0.3, raising(KeyboardInterrupt())):
+            check(refused(KeyboardInterrupt, ask) and own_programs() == mine, "an interrupted opening leaves its program")
+        check(refused(asyncio.TimeoutError, lambda: asyncio.run(ask_and_cancel())), "a cancelled opening goes on")
+        check(cache.put(b"k", b"v"), "a put isn't taken")
+    for value in (b"v", b"w"):
+        cache = ask()
+        check(cache.get(b"k") == value and cache.put(b"k", b"w"), "what was put is gone")
+        del cache  # without a close
+    with ask() as cache:
+        check(cache.get(b"k") == b"w" and len(own_programs()) == 1, "an abandoned cache leaves its program")
 
 
 def killed_caller(opened, rnd, room):
@@ -430,7 +473,7 @@ def put_on(kind, program, place, library):
 
 CASES = [
     round_trips, thousands_at_once, reopenings, full_device, limits, threads_share, tasks_share, two_caches, one_holder, too_long, bad_words,
-    killed_program, ended_anew, failed_reader, killed_caller,
+    killed_program, ended_anew, failed_reader, abandoned, killed_caller,
 ]
 
 
