@@ -9,13 +9,15 @@
 Needs Python 3.8 or later and nothing else. Threads may share a Cache: each call waits for its own reply. docs/PIPE.md has the frames.
 """
 import asyncio
+import contextlib
 import functools
 import struct
 import subprocess
 import tempfile
 import threading
 import weakref
-from concurrent.futures import Future, ThreadPoolExecutor
+from concurrent.futures import ThreadPoolExecutor
+from queue import SimpleQueue
 
 DONE, ENTRY, MISS, IGNORED, DELETED, THROTTLED, YES, NO = range(8)
 ERRORS = dict(enumerate("Io Memory Config Parse MagicMismatch ChecksumMismatch OutOfRange BufferSizeLimit NoSpace Recover Closed "
@@ -44,13 +46,15 @@ class Throttled(CacheError):
     """A limit of reads holds the get back."""
 
 
-# Answers a put by what a delete of its key was answered.
-def _give_deleted(future, deleted):
-    if deleted.exception():
-        future.set_exception(deleted.exception())
-    else:
-        code, found = deleted.result()
-        future.set_result((DELETED if code == DONE else code, found))
+# Gives a put what a delete of its key was answered.
+def _give_deleted(give, found):
+    give((DELETED, b"") if found == (DONE, b"") else found)
+
+
+# Gives an answer to a task, unless it was cancelled or its loop is closed.
+def _give_task(answer, found):
+    with contextlib.suppress(RuntimeError):
+        answer.get_loop().call_soon_threadsafe(lambda: answer.done() or answer.set_result(found))
 
 
 # Reads replies until the program ends, and then ends all calls. If the thread has an error, such as a MemoryError, it ends the program. It
@@ -93,6 +97,7 @@ class Cache:
         self._sending = threading.Lock()
         self._known = threading.Lock()
         self._waiting, self._number, self._ended = {}, 0, None
+        self._sent, self._frame = [], 0  # how many bytes of the last frame each write sent, and how many the frame has
         self._reader = threading.Thread(target=_read, args=(weakref.ref(self), self._program), daemon=True)
         try:
             self._reader.start()
@@ -121,11 +126,11 @@ class Cache:
 
     def _give(self, number, code, found):
         with self._known:
-            future = self._waiting.pop(number, None)
-        if code in FAULTS and future is None:
+            give = self._waiting.pop(number, None)
+        if give is not None:
+            give((code, found))
+        elif code in FAULTS:
             self._fault = FAULTS[code]
-        if future is not None:
-            future.set_result((code, found))
 
     # Ends all calls.
     def _end(self, fault):
@@ -136,8 +141,8 @@ class Cache:
             with self._known:
                 self._ended = text
                 left, self._waiting = self._waiting, {}
-            for future in left.values():
-                future.set_exception(CacheEnded(text))
+            for give in left.values():
+                give(CacheEnded(text))
 
     def _last_words(self, fault):
         status = self._program.wait()
@@ -145,47 +150,68 @@ class Cache:
         said = self._errors.read().decode("utf-8", "replace").strip()
         return "the program ended with status %d%s%s" % (status, ": " + said if said else "", ", after " + fault if fault else "")
 
-    def _send(self, kind, key=b"", value=b""):
-        future = Future()
-        future.set_running_or_notify_cancel()  # a reply arrives even if the task was cancelled
+    # Sends a request. Its answer goes to `give`: a code with bytes, or the error that the cache has ended.
+    def _send(self, give, kind, key=b"", value=b""):
         if len(value) > self._limits["value"]:
             # in place of the put its key is deleted, and answered so
-            self._send(b"d", key).add_done_callback(functools.partial(_give_deleted, future))
-            return future
+            give, kind, value = functools.partial(_give_deleted, give), b"d", b""
         with self._sending:
+            self._end_if_cut()
             with self._known:
                 if self._ended:
-                    raise CacheEnded(self._ended)
+                    return give(CacheEnded(self._ended))
                 if len(key) > self._limits["key"]:
-                    future.set_result((LONG_KEY[kind], b""))
-                    return future
+                    return give((LONG_KEY[kind], b""))
                 self._number = number = (self._number + 1) % (1 << 32) or 1
             frame = b"".join((REQUEST.pack(kind, number, len(key), len(value)), key, value))
             with self._known:
                 if self._ended:
-                    raise CacheEnded(self._ended)
-                self._waiting[number] = future
+                    return give(CacheEnded(self._ended))
+                self._waiting[number] = give
             try:
-                view = memoryview(frame)
-                while view:
-                    view = view[self._program.stdin.write(view):]
-            except (OSError, ValueError):
-                pass  # the reader notices the end, and ends all waiting calls
-        return future
+                self._write(frame)
+            except BrokenPipeError:
+                self._program.stdin.close()  # the reader notices the end, and ends all waiting calls
+            except BaseException:
+                self._end_if_cut()
+                with self._known:
+                    self._waiting.pop(number, None)
+                raise
+
+    def _write(self, frame):
+        stdin, self._sent, self._frame = self._program.stdin, [], len(frame)
+        while sum(self._sent) < len(frame) and not stdin.closed:
+            # each write notes its count in C, where no signal's handler comes between the two
+            self._sent.extend(map(stdin.write, [memoryview(frame)[sum(self._sent):]]))
+
+    # If an exception, such as one of a signal's handler, cut the last frame, ends the input in it: so the program takes nothing for its rest.
+    # The program answers what was sent before, writes what is queued, and ends.
+    def _end_if_cut(self):
+        if 0 < sum(self._sent) < self._frame and not self._program.stdin.closed:
+            self._fault = "an exception that cut a request"
+            with self._known:
+                self._ended = "the cache ended after " + self._fault
+            self._program.stdin.close()
+
+    # Sends a request, and gives a queue for its answer. The queue's get is done in C: an exception there leaves no lock behind.
+    def _ask(self, kind, key=b"", value=b""):
+        answer = SimpleQueue()
+        self._send(answer.put, kind, key, value)
+        return answer
 
     def _call(self, kind, key=b"", value=b""):
-        return self._taken(self._send(kind, key, value))
-
-    def _taken(self, future):
-        return self._answered(*future.result())
+        return self._taken(self._ask(kind, key, value).get())
 
     @staticmethod
-    def _answered(code, found):
+    def _taken(found):
+        if isinstance(found, CacheError):
+            raise found
+        code = found[0]
         if code in ERRORS:
             raise CacheError(ERRORS[code])
         if code == THROTTLED:
             raise Throttled("Throttled")
-        return code, found
+        return found
 
     def put(self, key, value):
         """Puts a value. False if it isn't taken, since it is too long, too much is queued or a limit holds it back: then its key is
@@ -194,7 +220,7 @@ class Cache:
 
     def put_many(self, pairs):
         """Puts many pairs without waiting between them. Gives for each whether it is taken."""
-        return [self._taken(it)[0] == DONE for it in [self._send(b"p", key, value) for key, value in pairs]]
+        return [self._taken(it.get())[0] == DONE for it in [self._ask(b"p", key, value) for key, value in pairs]]
 
     def get(self, key):
         """The value under a key, or None."""
@@ -203,7 +229,7 @@ class Cache:
 
     def get_many(self, keys):
         """The values under many keys, or None for each that is missing, without waiting between them."""
-        taken = [self._taken(it) for it in [self._send(b"g", key) for key in keys]]
+        taken = [self._taken(it.get()) for it in [self._ask(b"g", key) for key in keys]]
         return [found if code == ENTRY else None for code, found in taken]
 
     def get_or(self, key, make):
@@ -274,8 +300,9 @@ class AsyncCache:
         return await asyncio.get_running_loop().run_in_executor(self._thread, call, *words)
 
     async def _ask(self, kind, key=b"", value=b""):
-        future = await self._run(self._cache._send, kind, key, value)
-        return Cache._answered(*await asyncio.wrap_future(future))
+        answer = asyncio.get_running_loop().create_future()
+        await self._run(self._cache._send, functools.partial(_give_task, answer), kind, key, value)
+        return Cache._taken(await answer)
 
     async def put(self, key, value):
         return (await self._ask(b"p", key, value))[0] == DONE

@@ -5,8 +5,8 @@ examples of docs/PIPE.md and of examples/.
 The C client is built with all warnings as errors, and its example with sanitizers, and run under valgrind if that is there. The cases:
 round trips of random bytes; thousands of gets at once; a reopening, with and without a log of deletes; a device that is full; limits;
 threads that share a cache; two caches of one process; keys and values that are too long; bad words; a killed program; a killed caller.
-Only for the client in Python: tasks that share a cache; errors that are new ones; a thread that can't read replies; openings and caches that
-are abandoned. Ends with status 0 if all held.
+Only for the client in Python: tasks that share a cache; errors that are new ones; a thread that can't read replies; exceptions from signals'
+handlers; openings and caches that are abandoned. Ends with status 0 if all held.
 
 usage: clients.py [--program FILE] [--seed N]
 """
@@ -14,6 +14,7 @@ import argparse
 import asyncio
 import contextlib
 import ctypes
+import faulthandler
 import os
 import random
 import re
@@ -419,6 +420,59 @@ def failed_reader(opened, rnd, room):
     threading.excepthook = before
 
 
+class Interrupt(BaseException):
+    """What the handler of a signal raises."""
+
+
+def in_client(_, frame):
+    """A handler that raises only in the client."""
+    if frame.f_code.co_filename == foyer_client.__file__ and frame.f_code.co_name != "__del__":
+        raise Interrupt
+
+
+def interrupted(opened, rnd, room):
+    if opened.kind != "Python":
+        return
+    faulthandler.dump_traceback_later(120, exit=True)  # for calls that hang
+    # A request of which a half is written, and one of which nothing is, since the program doesn't read.
+    for error, is_cut in ((KeyboardInterrupt(), True), (KeyboardInterrupt(), False), (TimeoutError(), True), (TimeoutError(), False)):
+        cache = opened(":memory:", 1 << 26, 1 << 20)
+        check(cache.put(b"k", b"v"), "a put isn't taken")
+        program = own_programs()[0]
+
+        def ask_on():
+            while True:
+                cache.put(b"k", b"w" * (1 << 20)) if is_cut else cache._ask(b"g", b"k")
+
+        os.kill(program, signal.SIGSTOP)
+        with alarm(0.3, raising(error)):
+            check(raised(ask_on) is error, "%r is lost in a call" % error)
+        os.kill(program, signal.SIGCONT)
+        if is_cut:
+            check(in_time(cache._program.wait) == 1, "a cut request doesn't end the program")
+            check(refused(CacheEnded, lambda: cache.get(b"k")) and cache.close() == 1, "a cut request doesn't end the cache")
+        else:
+            check(cache.get(b"k") == b"v" and cache.close() == 0, "an interrupted call ends the cache")
+    # Exceptions at any places, also while one is handled.
+    ends = 0
+    for _ in range(30):
+        cache = opened(":memory:", 1 << 26, 1 << 20)
+        pairs = {b"%d" % k: b"%d " % k * rnd.choice([1, 100, 100000]) for k in range(100)}
+        before = signal.signal(signal.SIGALRM, in_client)
+        signal.setitimer(signal.ITIMER_REAL, rnd.random() / 100, rnd.choice([0.0001, 0.001, 0.01]))
+        for key in list(pairs) * 3:
+            error = raised(lambda: cache.put(key, pairs[key]) and check(cache.get(key) in (None, pairs[key]), "a value differs"))
+            check(error is None or isinstance(error, (Interrupt, CacheEnded)), "%r is raised" % error)
+        signal.setitimer(signal.ITIMER_REAL, 0)
+        signal.signal(signal.SIGALRM, before)
+        error = raised(lambda: check(all(cache.get(key) in (None, pairs[key]) for key in pairs), "a value differs after exceptions"))
+        check(error is None or isinstance(error, CacheEnded), "after exceptions %r is raised" % error)
+        check((cache.close() == 0) == (error is None), "a close after exceptions differs")
+        ends += error is not None
+    check(0 < ends < 30, "exceptions end %d of 30 caches" % ends)
+    faulthandler.cancel_dump_traceback_later()
+
+
 def abandoned(opened, rnd, room):
     if opened.kind != "Python":
         return
@@ -473,7 +527,7 @@ def put_on(kind, program, place, library):
 
 CASES = [
     round_trips, thousands_at_once, reopenings, full_device, limits, threads_share, tasks_share, two_caches, one_holder, too_long, bad_words,
-    killed_program, ended_anew, failed_reader, abandoned, killed_caller,
+    killed_program, ended_anew, failed_reader, interrupted, abandoned, killed_caller,
 ]
 
 
