@@ -38,7 +38,7 @@ struct foyer_cache {
     int is_reading, has_ended;
     uint32_t number;
     size_t key_limit, value_limit; /* what the program takes in a frame: it ends after a longer one */
-    pid_t program;
+    pid_t program, owner;
     int to, from;
 };
 
@@ -215,8 +215,13 @@ static int take_reply(foyer_cache *cache, struct asked *own) {
     return own->code;
 }
 
+/* Whether this process is a forked one. Its requests and replies would mix with those of the process that opened the cache, and another thread of
+ * that process may have had the locks. */
+static int is_forked(const foyer_cache *cache) { return getpid() != cache->owner; }
+
 static int call(foyer_cache *cache, char kind, const void *key, size_t key_len, const void *value, size_t value_len, foyer_value *found) {
     struct asked own = {0};
+    if (is_forked(cache)) return FOYER_ENDED;
     own.value = found;
     pthread_mutex_lock(&cache->sending);
     send_request(cache, &own, kind, key, key_len, value, value_len);
@@ -260,6 +265,10 @@ int foyer_get_many(foyer_cache *cache, size_t count, const void *const *keys, co
     struct asked asked[MOST_AT_ONCE];
     size_t sent = 0, taken = 0, ahead = 0;
     int has_ended = 0;
+    if (is_forked(cache)) {
+        for (size_t i = 0; i < count; i++) codes[i] = FOYER_ENDED;
+        return FOYER_ENDED;
+    }
     while (taken < count) {
         int is_room = sent < count && (sent == taken || (sent - taken < MOST_AT_ONCE && ahead + HEAD_LEN + key_lens[sent] <= AHEAD));
         if (is_room && sent == taken) pthread_mutex_lock(&cache->sending);
@@ -308,6 +317,7 @@ static int start(foyer_cache *cache, const char *const *words) {
         close_ends(to);
         return -1;
     }
+    cache->owner = getpid();
     cache->program = fork();
     if (cache->program == 0) {
         if (dup2(to[0], 0) == 0 && dup2(from[1], 1) == 1) execvp(words[0], (char *const *)words);
@@ -363,6 +373,11 @@ foyer_cache *foyer_open(const char *program, const char *directory, const char *
 int foyer_close(foyer_cache *cache) {
     int status = -1;
     close(cache->to);
+    if (is_forked(cache)) {
+        close(cache->from);
+        free(cache);
+        return -1;
+    }
     /* what is still on its way */
     if (!cache->has_ended) {
         char room[4096];

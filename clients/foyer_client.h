@@ -6,7 +6,10 @@
  *     if (foyer_get(cache, "key", 3, &value) == FOYER_ENTRY) { fwrite(value.bytes, 1, value.len, stdout); free(value.bytes); }
  *     foyer_close(cache);
  *
- * Threads may share a cache: each call waits for its own reply, and others go on meanwhile. docs/PIPE.md has the frames and the codes. */
+ * Threads may share a cache: each call waits for its own reply, and others go on meanwhile. docs/PIPE.md has the frames and the codes.
+ *
+ * A forked child must not use a cache of its parent: its calls give FOYER_ENDED, and it may only close the cache. This gives up the child's
+ * copies of the pipes. As long as a child has copies, its parent's foyer_close waits. A child that begins another program has none. */
 #ifndef FOYER_CLIENT_H
 #define FOYER_CLIENT_H
 
@@ -38,7 +41,7 @@ enum {
     FOYER_CLOSED = 75,
     FOYER_UNSUPPORTED = 76,
     FOYER_SEQUENCE_END = 77,
-    FOYER_ENDED = 256,    /* the program ended or sent no valid reply, and every later call gives this, too */
+    FOYER_ENDED = 256,    /* the program ended or sent no valid reply, and every later call gives this, too; or the caller is a forked child */
     FOYER_NO_MEMORY = 257 /* this process has no memory for the value: get it again */
 };
 
@@ -70,7 +73,7 @@ int foyer_counters(foyer_cache *cache, foyer_value *lines);
 int foyer_get_many(foyer_cache *cache, size_t count, const void *const *keys, const size_t *key_lens, int *codes, foyer_value *values);
 
 /* Ends the program, which first writes what is queued, and frees the cache. No other call may be under way or follow. Gives the exit
- * status, 0 if all went well, or -1 if there is none. */
+ * status, 0 if all went well, or -1 if there is none. In a forked child it only frees what the child has, and gives -1. */
 int foyer_close(foyer_cache *cache);
 
 #endif

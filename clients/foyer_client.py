@@ -11,6 +11,7 @@ Needs Python 3.8 or later and nothing else. Threads may share a Cache: each call
 import asyncio
 import contextlib
 import functools
+import os
 import struct
 import subprocess
 import tempfile
@@ -83,6 +84,19 @@ def _read(known, program):
             cache._end(fault)
 
 
+_caches = weakref.WeakSet()
+
+
+# Closes a forked process's copies of the pipes: a program's input would not end before this process does.
+def _close_copies():
+    for cache in list(_caches):
+        cache._program.stdin.close()
+        cache._program.stdout.close()
+
+
+os.register_at_fork(after_in_child=_close_copies)
+
+
 class Cache:
     """A cache in a directory, or in memory for the directory `:memory:`. Options are those of the program: flushers=2, log=1, ..
     A key that is longer than the option key=N is never in the cache, and a value that is longer than value=N is never taken."""
@@ -92,7 +106,7 @@ class Cache:
     def __init__(self, program, directory, capacity, block_size=1 << 24, **options):
         self._limits = {name: int(options.get(name, usual)) for name, usual in LIMITS.items()}
         words = [program, directory, str(capacity), str(block_size)] + ["%s=%s" % it for it in options.items()]
-        self._errors = tempfile.TemporaryFile()
+        self._errors, self._owner = tempfile.TemporaryFile(), os.getpid()
         self._program = subprocess.Popen(words, stdin=subprocess.PIPE, stdout=subprocess.PIPE, stderr=self._errors, bufsize=0)
         self._sending = threading.Lock()
         self._known = threading.Lock()
@@ -100,6 +114,7 @@ class Cache:
         self._sent, self._frame = [], 0  # how many bytes of the last frame each write sent, and how many the frame has
         self._reader = threading.Thread(target=_read, args=(weakref.ref(self), self._program), daemon=True)
         try:
+            _caches.add(self)
             self._reader.start()
             self._call(b"h", b"")  # waits until the cache is open; raises CacheEnded if it can't be opened
         except BaseException:
@@ -152,6 +167,7 @@ class Cache:
 
     # Sends a request. Its answer goes to `give`: a code with bytes, or the error that the cache has ended.
     def _send(self, give, kind, key=b"", value=b""):
+        self._check_owner()
         if len(value) > self._limits["value"]:
             # in place of the put its key is deleted, and answered so
             give, kind, value = functools.partial(_give_deleted, give), b"d", b""
@@ -177,6 +193,11 @@ class Cache:
                 with self._known:
                     self._waiting.pop(number, None)
                 raise
+
+    # A forked process has neither the thread that reads replies nor the locks as they are.
+    def _check_owner(self):
+        if os.getpid() != self._owner:
+            raise CacheEnded("the cache belongs to the process that opened it: after a fork, open another one")
 
     def _write(self, frame):
         stdin, self._sent, self._frame = self._program.stdin, [], len(frame)
@@ -267,7 +288,10 @@ class Cache:
         self._call(b"x")
 
     def close(self):
-        """Ends the program, which first writes what is queued. Gives its status, 0 if all went well."""
+        """Ends the program, which first writes what is queued. Gives its status, 0 if all went well. In a forked process does nothing, and
+        gives None."""
+        if os.getpid() != self._owner:
+            return None
         with self._sending:
             self._program.stdin.close()
         self._reader.join()
@@ -297,6 +321,7 @@ class AsyncCache:
         self._thread = ThreadPoolExecutor(1)  # writing to a full pipe would block the loop
 
     async def _run(self, call, *words):
+        self._cache._check_owner()
         return await asyncio.get_running_loop().run_in_executor(self._thread, call, *words)
 
     async def _ask(self, kind, key=b"", value=b""):

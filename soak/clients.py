@@ -4,9 +4,9 @@ examples of docs/PIPE.md and of examples/.
 
 The C client is built with all warnings as errors, and its example with sanitizers, and run under valgrind if that is there. The cases:
 round trips of random bytes; thousands of gets at once; a reopening, with and without a log of deletes; a device that is full; limits;
-threads that share a cache; two caches of one process; keys and values that are too long; bad words; a killed program; a killed caller.
-Only for the client in Python: tasks that share a cache; errors that are new ones; a thread that can't read replies; exceptions from signals'
-handlers; openings and caches that are abandoned. Ends with status 0 if all held.
+threads that share a cache; two caches of one process; a forked process; keys and values that are too long; bad words; a killed program; a
+killed caller. Only for the client in Python: tasks that share a cache; errors that are new ones; a thread that can't read replies;
+exceptions from signals' handlers; openings and caches that are abandoned. Ends with status 0 if all held.
 
 usage: clients.py [--program FILE] [--seed N]
 """
@@ -297,6 +297,27 @@ def two_caches(opened, rnd, room):
     check(one.close() == 0 and other.put(b"a", b"2") and other.close() == 0, "two caches don't close")
 
 
+def forked(opened, rnd, room):
+    cache = opened(":memory:", 1 << 24, 1 << 20)
+    check(cache.put(b"k", b"v"), "a put isn't taken")
+    said, say = os.pipe()
+    child = os.fork()
+    if child == 0:
+        calls = lambda: cache.put(b"k", b"w"), lambda: cache.get(b"k"), lambda: cache.get_many([b"k"]), cache.wait, cache.counters
+        os.write(say, b"%d" % sum(isinstance(raised(it), CacheEnded) for it in calls))
+        if opened.kind == "C":
+            cache.close()
+        os.write(say, b".")
+        time.sleep(600)
+        os._exit(0)
+    try:
+        check(in_time(lambda: os.read(said, 1) + os.read(said, 1)) == b"5.", "a forked process may use the cache")
+        check(cache.get(b"k") == b"v" and in_time(cache.close) == 0, "a forked process keeps the cache from its end")
+    finally:
+        os.kill(child, signal.SIGKILL)
+        os.waitpid(child, 0)
+
+
 def bad_words(opened, rnd, room):
     for words in ({"flushers": 0}, {"nothing": 1}, {"recover": "never"}):
         check(refused(CacheEnded, lambda: opened(":memory:", 1 << 24, 1 << 20, **words)), "%r opens" % words)
@@ -526,7 +547,7 @@ def put_on(kind, program, place, library):
 
 
 CASES = [
-    round_trips, thousands_at_once, reopenings, full_device, limits, threads_share, tasks_share, two_caches, one_holder, too_long, bad_words,
+    round_trips, thousands_at_once, reopenings, full_device, limits, threads_share, tasks_share, two_caches, forked, one_holder, too_long, bad_words,
     killed_program, ended_anew, failed_reader, interrupted, abandoned, killed_caller,
 ]
 
