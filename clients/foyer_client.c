@@ -309,7 +309,8 @@ static int make_pipe(int ends[2]) {
     return -1;
 }
 
-/* Starts the program with pipes at its standard input and output. */
+/* Starts the program with pipes at its standard input and output, and in a session of its own: a Ctrl-C, or another signal to the process group,
+ * would end it before it is closed. */
 static int start(foyer_cache *cache, const char *const *words) {
     int to[2], from[2];
     if (make_pipe(to)) return -1;
@@ -320,6 +321,7 @@ static int start(foyer_cache *cache, const char *const *words) {
     cache->owner = getpid();
     cache->program = fork();
     if (cache->program == 0) {
+        setsid();
         if (dup2(to[0], 0) == 0 && dup2(from[1], 1) == 1) execvp(words[0], (char *const *)words);
         _exit(127);
     }

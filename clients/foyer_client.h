@@ -8,6 +8,9 @@
  *
  * Threads may share a cache: each call waits for its own reply, and others go on meanwhile. docs/PIPE.md has the frames and the codes.
  *
+ * The program has a session of its own, so a Ctrl-C doesn't reach it: close the cache before you end. If your process is killed, the program
+ * writes what is queued, and ends.
+ *
  * A forked child must not use a cache of its parent: its calls give FOYER_ENDED, and it may only close the cache. This gives up the child's
  * copies of the pipes. As long as a child has copies, its parent's foyer_close waits. A child that begins another program has none. */
 #ifndef FOYER_CLIENT_H

@@ -107,7 +107,9 @@ class Cache:
         self._limits = {name: int(options.get(name, usual)) for name, usual in LIMITS.items()}
         words = [program, directory, str(capacity), str(block_size)] + ["%s=%s" % it for it in options.items()]
         self._errors, self._owner = tempfile.TemporaryFile(), os.getpid()
-        self._program = subprocess.Popen(words, stdin=subprocess.PIPE, stdout=subprocess.PIPE, stderr=self._errors, bufsize=0)
+        # in a session of its own: a Ctrl-C, or another signal to the process group, would end it before it is closed
+        self._program = subprocess.Popen(words, stdin=subprocess.PIPE, stdout=subprocess.PIPE, stderr=self._errors, bufsize=0,
+                                         start_new_session=True)
         self._sending = threading.Lock()
         self._known = threading.Lock()
         self._waiting, self._number, self._ended = {}, 0, None

@@ -5,7 +5,7 @@ examples of docs/PIPE.md and of examples/.
 The C client is built with all warnings as errors, and its example with sanitizers, and run under valgrind if that is there. The cases:
 round trips of random bytes; thousands of gets at once; a reopening, with and without a log of deletes; a device that is full; limits;
 threads that share a cache; two caches of one process; a forked process; keys and values that are too long; bad words; a killed program; a
-killed caller. Only for the client in Python: tasks that share a cache; errors that are new ones; a thread that can't read replies;
+caller that is interrupted; a killed caller. Only for the client in Python: tasks that share a cache; errors that are new ones; a thread that can't read replies;
 exceptions from signals' handlers; openings and caches that are abandoned. Ends with status 0 if all held.
 
 usage: clients.py [--program FILE] [--seed N]
@@ -518,11 +518,36 @@ def abandoned(opened, rnd, room):
         check(cache.get(b"k") == b"w" and len(own_programs()) == 1, "an abandoned cache leaves its program")
 
 
+def start_caller(what, opened, place):
+    """Starts a process, in a group of its own, that opens a cache and then does something. Gives it with the first line that it prints."""
+    text = "import sys; sys.path.insert(0, %r); import clients; clients.%s(clients.opener(%r, %r, %r, 0)(%r, 1 << 24, 1 << 20))"
+    words = [sys.executable, "-c", text % (TOP + "/soak", what, opened.kind, opened.program, opened.library, place)]
+    caller = subprocess.Popen(words, stdout=subprocess.PIPE, start_new_session=True)
+    return caller, caller.stdout.readline()
+
+
+def interrupted_caller(opened, rnd, room):
+    caller, taken = start_caller("put_and_close", opened, room + "/caller")
+    os.killpg(caller.pid, signal.SIGINT)  # as a Ctrl-C
+    check(caller.wait() == 0, "the program of a process group that was interrupted ends before its close")
+    with opened(room + "/caller", 1 << 24, 1 << 20) as cache:
+        found = [cache.get(b"%d" % k) for k in range(400)]
+        check(int(taken) == 400 and all(it == b"%d " % k * 5000 for k, it in enumerate(found)), "an interrupted caller loses what was queued")
+
+
+def put_and_close(cache):
+    """What the caller does that is interrupted."""
+    taken = sum(cache.put(b"%d" % k, b"%d " % k * 5000) for k in range(400))
+    try:
+        print(taken, flush=True)
+        time.sleep(60)
+    except KeyboardInterrupt:
+        sys.exit(cache.close())
+
+
 def killed_caller(opened, rnd, room):
-    text = "import sys, os; sys.path.insert(0, %r); import clients; clients.put_on(%r, %r, %r, %r)"
-    words = [TOP + "/soak", opened.kind, opened.program, room + "/caller", opened.library]
-    caller = subprocess.Popen([sys.executable, "-c", text % tuple(words)], stdout=subprocess.PIPE)
-    pid = int(caller.stdout.readline())
+    caller, line = start_caller("put_on", opened, room + "/caller")
+    pid = int(line)
     time.sleep(0.2)
     caller.kill()
     caller.wait()
@@ -537,9 +562,8 @@ def killed_caller(opened, rnd, room):
         check(all(it in (None, b"%d " % k * 100) for k, it in enumerate(found)), "after a killed caller a value differs")
 
 
-def put_on(kind, program, place, library):
+def put_on(cache):
     """What the caller does that is killed."""
-    cache = opener(kind, program, library, 0)(place, 1 << 24, 1 << 20)
     print(own_programs()[0], flush=True)
     while True:
         for k in range(100):
@@ -548,7 +572,7 @@ def put_on(kind, program, place, library):
 
 CASES = [
     round_trips, thousands_at_once, reopenings, full_device, limits, threads_share, tasks_share, two_caches, forked, one_holder, too_long, bad_words,
-    killed_program, ended_anew, failed_reader, interrupted, abandoned, killed_caller,
+    killed_program, ended_anew, failed_reader, interrupted, abandoned, interrupted_caller, killed_caller,
 ]
 
 
