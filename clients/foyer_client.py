@@ -47,6 +47,14 @@ class Throttled(CacheError):
     """A limit of reads holds the get back."""
 
 
+# A view of what is like bytes: its len() may be another number than that of its bytes.
+def _bytes_of(word):
+    view = memoryview(word)
+    if not view.c_contiguous:
+        raise TypeError("a key or a value whose bytes don't lie side by side")
+    return view
+
+
 # Gives a put what a delete of its key was answered.
 def _give_deleted(give, found):
     give((DELETED, b"") if found == (DONE, b"") else found)
@@ -99,7 +107,8 @@ os.register_at_fork(after_in_child=_close_copies)
 
 class Cache:
     """A cache in a directory, or in memory for the directory `:memory:`. Options are those of the program: flushers=2, log=1, ..
-    A key that is longer than the option key=N is never in the cache, and a value that is longer than value=N is never taken."""
+    A key that is longer than the option key=N is never in the cache, and a value that is longer than value=N is never taken. Keys and values
+    are bytes, or what has bytes side by side, such as a memoryview or an array: then all of its bytes count, whatever its len() is."""
 
     _program = _fault = None
 
@@ -170,18 +179,20 @@ class Cache:
     # Sends a request. Its answer goes to `give`: a code with bytes, or the error that the cache has ended.
     def _send(self, give, kind, key=b"", value=b""):
         self._check_owner()
-        if len(value) > self._limits["value"]:
+        key, value = _bytes_of(key), _bytes_of(value)
+        if value.nbytes > self._limits["value"]:
             # in place of the put its key is deleted, and answered so
-            give, kind, value = functools.partial(_give_deleted, give), b"d", b""
+            give, kind, value = functools.partial(_give_deleted, give), b"d", _bytes_of(b"")
         with self._sending:
             self._end_if_cut()
             with self._known:
                 if self._ended:
                     return give(CacheEnded(self._ended))
-                if len(key) > self._limits["key"]:
+                if key.nbytes > self._limits["key"]:
                     return give((LONG_KEY[kind], b""))
                 self._number = number = (self._number + 1) % (1 << 32) or 1
-            frame = b"".join((REQUEST.pack(kind, number, len(key), len(value)), key, value))
+            frame = b"".join((REQUEST.pack(kind, number, key.nbytes, value.nbytes), key, value))
+            del key, value  # a bytearray can't be resized while there is a view of it
             with self._known:
                 if self._ended:
                     return give(CacheEnded(self._ended))

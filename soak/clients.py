@@ -5,12 +5,13 @@ examples of docs/PIPE.md and of examples/.
 The C client is built with all warnings as errors, and its example with sanitizers, and run under valgrind if that is there. The cases:
 round trips of random bytes; thousands of gets at once; a reopening, with and without a log of deletes; a device that is full; limits;
 threads that share a cache; two caches of one process; a forked process; keys and values that are too long; bad words; a killed program; a
-caller that is interrupted; a killed caller. Only for the client in Python: tasks that share a cache; errors that are new ones; a thread that can't read replies;
+caller that is interrupted; a killed caller. Only for the client in Python: tasks that share a cache; what is like bytes; errors that are new ones; a thread that can't read replies;
 exceptions from signals' handlers; openings and caches that are abandoned. Ends with status 0 if all held.
 
 usage: clients.py [--program FILE] [--seed N]
 """
 import argparse
+import array
 import asyncio
 import contextlib
 import ctypes
@@ -348,14 +349,27 @@ def too_long(opened, rnd, room):
         check(not cache.put(long_key, value + b"v"), "what is too long is taken")
         check(cache.counters()["deletes"] == 1 and cache.put(key, value) and cache.get(key) == value, "the cache doesn't go on")
         if opened.kind == "Python":
-            put = cache.put(bytearray(b"any"), memoryview(b"bytes"))
-            check(put and cache.get(memoryview(b"any")) == b"bytes", "what is like bytes differs")
             check(all(refused(TypeError, lambda: cache.get(it)) for it in ("text", None, 7)), "a key that isn't bytes is taken")
             check(cache.get_or(long_key, lambda it: value + it) == value + long_key, "get_or doesn't give what is too long")
             check(cache.put_many([(key, value + b"v"), (long_key, value), (key, value)]) == [False, False, True], "put_many differs")
     with opened(":memory:", 1 << 26, 1 << 20) as cache:
         check(not cache.put(b"k" * 65537, b"v") and not cache.put(b"k", b"v" * 67108865), "what is too long by default is taken")
         check(cache.put(b"k" * 65536, b"v") and cache.get(b"k" * 65536) == b"v", "a key at the limit isn't taken")
+
+
+def like_bytes(opened, rnd, room):
+    if opened.kind != "Python":
+        return
+    numbers = array.array("d", range(100))
+    words = [numbers, memoryview(numbers)[:3], memoryview(b"12345678").cast("I"), memoryview(b"12345678").cast("H", (2, 2)),
+             (ctypes.c_uint16 * 3)(1, 2, 3), bytearray(b"any"), array.array("d"), memoryview(b"bytes")]
+    with opened(":memory:", 1 << 26, 1 << 20, value=800) as cache:
+        for word in words:
+            check(cache.put(word, word) and cache.get(word) == bytes(word) == cache.get(bytes(word)), "%r differs" % word)
+        check(not cache.put(b"k", array.array("d", range(101))), "more bytes than value=N are taken")
+        apart = memoryview(b"123456")[::2]
+        check(all(refused(TypeError, it) for it in (lambda: cache.put(b"k", apart), lambda: cache.get(apart))), "bytes that lie apart are taken")
+        check(cache.put(b"k", b"v") and cache.get(b"k") == b"v", "the cache doesn't go on")
 
 
 def tasks_share(opened, rnd, room):
@@ -571,8 +585,8 @@ def put_on(cache):
 
 
 CASES = [
-    round_trips, thousands_at_once, reopenings, full_device, limits, threads_share, tasks_share, two_caches, forked, one_holder, too_long, bad_words,
-    killed_program, ended_anew, failed_reader, interrupted, abandoned, interrupted_caller, killed_caller,
+    round_trips, thousands_at_once, reopenings, full_device, limits, threads_share, tasks_share, two_caches, forked, one_holder, too_long,
+    like_bytes, bad_words, killed_program, ended_anew, failed_reader, interrupted, abandoned, interrupted_caller, killed_caller,
 ]
 
 
