@@ -168,7 +168,7 @@ class Cache:
                 self._ended = text
                 left, self._waiting = self._waiting, {}
             for give in left.values():
-                give(CacheEnded(text))
+                give(text)
 
     def _last_words(self, fault):
         status = self._program.wait()
@@ -176,7 +176,7 @@ class Cache:
         said = self._errors.read().decode("utf-8", "replace").strip()
         return "the program ended with status %d%s%s" % (status, ": " + said if said else "", ", after " + fault if fault else "")
 
-    # Sends a request. Its answer goes to `give`: a code with bytes, or the error that the cache has ended.
+    # Sends a request. Its answer goes to `give`: a code with bytes, or a text if the cache has ended.
     def _send(self, give, kind, key=b"", value=b""):
         self._check_owner()
         key, value = _bytes_of(key), _bytes_of(value)
@@ -187,7 +187,7 @@ class Cache:
             self._end_if_cut()
             with self._known:
                 if self._ended:
-                    return give(CacheEnded(self._ended))
+                    return give(self._ended)
                 if key.nbytes > self._limits["key"]:
                     return give((LONG_KEY[kind], b""))
                 self._number = number = (self._number + 1) % (1 << 32) or 1
@@ -195,7 +195,7 @@ class Cache:
             del key, value  # a bytearray can't be resized while there is a view of it
             with self._known:
                 if self._ended:
-                    return give(CacheEnded(self._ended))
+                    return give(self._ended)
                 self._waiting[number] = give
             try:
                 self._write(frame)
@@ -238,8 +238,8 @@ class Cache:
 
     @staticmethod
     def _taken(found):
-        if isinstance(found, CacheError):
-            raise found
+        if isinstance(found, str):
+            raise CacheEnded(found)
         code = found[0]
         if code in ERRORS:
             raise CacheError(ERRORS[code])

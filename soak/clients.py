@@ -16,6 +16,7 @@ import asyncio
 import contextlib
 import ctypes
 import faulthandler
+import gc
 import os
 import random
 import re
@@ -440,6 +441,12 @@ def ended_anew(opened, rnd, room):
     depth = max(len(list(traceback.walk_tb(it.__traceback__))) for it in errors)
     check(depth < 10 and len(set(map(id, errors))) == 100, "an error is raised again, and keeps the frames of all calls: %d" % depth)
     cache.close()
+    del errors
+    gc.collect()
+    gc.disable()
+    check(refused(CacheEnded, lambda: cache.get(b"k")), "a killed program answers")
+    gc.enable()
+    check(gc.collect() == 0, "an error keeps its own frames")
 
 
 def failed_reader(opened, rnd, room):
