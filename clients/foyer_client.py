@@ -252,19 +252,33 @@ class Cache:
         deleted."""
         return self._call(b"p", key, value)[0] == DONE
 
-    def put_many(self, pairs):
-        """Puts many pairs without waiting between them. Gives for each whether it is taken."""
-        return [self._taken(it.get())[0] == DONE for it in [self._ask(b"p", key, value) for key, value in pairs]]
+    def put_many(self, pairs, return_exceptions=False):
+        """Puts many pairs without waiting between them. Gives for each whether it is taken. If a put is refused, raises its error. With
+        return_exceptions=True gives the error in its place."""
+        answers = [self._ask(b"p", key, value) for key, value in pairs]
+        return self._all(answers, lambda code, _: code == DONE, return_exceptions)
 
     def get(self, key):
         """The value under a key, or None."""
         code, found = self._call(b"g", key)
         return found if code == ENTRY else None
 
-    def get_many(self, keys):
-        """The values under many keys, or None for each that is missing, without waiting between them."""
-        taken = [self._taken(it.get()) for it in [self._ask(b"g", key) for key in keys]]
-        return [found if code == ENTRY else None for code, found in taken]
+    def get_many(self, keys, return_exceptions=False):
+        """The values under many keys, or None for each that is missing, without waiting between them. If a get is refused or held back, raises
+        its error. With return_exceptions=True gives the error in its place."""
+        return self._all([self._ask(b"g", key) for key in keys], lambda code, found: found if code == ENTRY else None, return_exceptions)
+
+    # What each answer means, or its error.
+    def _all(self, answers, meaning, return_exceptions):
+        results = []
+        for it in answers:
+            try:
+                results.append(meaning(*self._taken(it.get())))
+            except CacheError as why:
+                if not return_exceptions:
+                    raise
+                results.append(why.with_traceback(None))
+        return results
 
     def get_or(self, key, make):
         """The value under a key. If there is none, or the get is refused or held back, puts what `make(key)` gives, and returns it."""

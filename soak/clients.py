@@ -5,8 +5,9 @@ examples of docs/PIPE.md and of examples/.
 The C client is built with all warnings as errors, and its example with sanitizers, and run under valgrind if that is there. The cases:
 round trips of random bytes; thousands of gets at once; a reopening, with and without a log of deletes; a device that is full; limits;
 threads that share a cache; two caches of one process; a forked process; keys and values that are too long; bad words; a killed program; a
-caller that is interrupted; a killed caller. Only for the client in Python: tasks that share a cache; what is like bytes; errors that are new ones; a thread that can't read replies;
-exceptions from signals' handlers; openings and caches that are abandoned. Ends with status 0 if all held.
+caller that is interrupted; a killed caller. Only for the client in Python: tasks that share a cache; what is like bytes; many requests of
+which some are refused; errors that are new ones; a thread that can't read replies; exceptions from signals' handlers; openings and caches
+that are abandoned. Ends with status 0 if all held.
 
 usage: clients.py [--program FILE] [--seed N]
 """
@@ -373,6 +374,32 @@ def like_bytes(opened, rnd, room):
         check(cache.put(b"k", b"v") and cache.get(b"k") == b"v", "the cache doesn't go on")
 
 
+def some_refused(opened, rnd, room):
+    if opened.kind != "Python":
+        return
+    pairs = [(b"%d" % k, b"%d " % k * 5000) for k in range(40)]
+    keys = [key for key, _ in pairs] + [b"none"]
+    with opened(room + "/some", 1 << 24, 1 << 20) as cache:
+        check(all(cache.put_many(pairs)), "a put isn't taken")
+    with opened(room + "/some", 1 << 24, 1 << 20, read_bytes=100000) as cache:
+        for _ in range(60):
+            found = cache.get_many(keys, return_exceptions=True)
+            held = sum(isinstance(it, Throttled) for it in found)
+            check(all(isinstance(it, Throttled) or it == dict(pairs).get(key) for key, it in zip(keys, found)), "one of many differs")
+            if 0 < held < 40:
+                break
+            time.sleep(0.1)
+        check(0 < held < 40, "a limit of reads holds %d of 40 gets back" % held)
+        check(refused(Throttled, lambda: cache.get_many(keys)), "a get that is held back raises nothing")
+        cache._call(b"q")
+        found = cache.put_many(pairs, return_exceptions=True)
+        check([it.kind for it in found] == ["Closed"] * 40, "refused puts give %r" % found[:3])
+        check(refused(CacheError, lambda: cache.put_many(pairs)), "a refused put raises nothing")
+        os.kill(own_programs()[0], signal.SIGKILL)
+        cache._reader.join()
+        check(all(isinstance(it, CacheEnded) for it in cache.get_many(keys, return_exceptions=True)), "a killed program answers")
+
+
 def tasks_share(opened, rnd, room):
     if opened.kind != "Python":
         return
@@ -436,6 +463,7 @@ def ended_anew(opened, rnd, room):
         return
     cache = opened(":memory:", 1 << 24, 1 << 20)
     os.kill(own_programs()[0], signal.SIGKILL)
+    cache._reader.join()
     errors = [raised(lambda: cache.get(b"k")) for _ in range(100)]
     check(all(isinstance(it, CacheEnded) for it in errors), "a killed program answers")
     depth = max(len(list(traceback.walk_tb(it.__traceback__))) for it in errors)
@@ -593,7 +621,7 @@ def put_on(cache):
 
 CASES = [
     round_trips, thousands_at_once, reopenings, full_device, limits, threads_share, tasks_share, two_caches, forked, one_holder, too_long,
-    like_bytes, bad_words, killed_program, ended_anew, failed_reader, interrupted, abandoned, interrupted_caller, killed_caller,
+    like_bytes, some_refused, bad_words, killed_program, ended_anew, failed_reader, interrupted, abandoned, interrupted_caller, killed_caller,
 ]
 
 
