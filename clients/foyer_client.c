@@ -1,5 +1,5 @@
 /* A client of foyerpipe: foyer_client.h says what each call does. */
-#define _POSIX_C_SOURCE 200809L
+#define _GNU_SOURCE /* pipe2 */
 #include "foyer_client.h"
 
 #include <errno.h>
@@ -288,18 +288,15 @@ int foyer_get_many(foyer_cache *cache, size_t count, const void *const *keys, co
     return has_ended ? FOYER_ENDED : FOYER_DONE;
 }
 
-/* Held from a pipe's making to its program's start, so that no program of another cache keeps its ends. */
-static pthread_mutex_t opening = PTHREAD_MUTEX_INITIALIZER;
-
 static void close_ends(const int ends[2]) {
     if (ends[0] >= 0) close(ends[0]);
     if (ends[1] >= 0) close(ends[1]);
 }
 
-/* A pipe whose ends no other program gets, and that are none of the three standard ones. */
+/* A pipe whose ends no other program gets, at any moment, and that are none of the three standard ones. */
 static int make_pipe(int ends[2]) {
     int made[2];
-    if (pipe(made)) return -1;
+    if (pipe2(made, O_CLOEXEC)) return -1;
     for (int i = 0; i < 2; i++) {
         ends[i] = fcntl(made[i], F_DUPFD_CLOEXEC, 3);
         close(made[i]);
@@ -355,10 +352,7 @@ foyer_cache *foyer_open(const char *program, const char *directory, const char *
     if (cache == NULL) return NULL;
     cache->key_limit = number_of("key", settings, KEY_LIMIT);
     cache->value_limit = number_of("value", settings, VALUE_LIMIT);
-    pthread_mutex_lock(&opening);
-    int failed = start(cache, words);
-    pthread_mutex_unlock(&opening);
-    if (failed) {
+    if (start(cache, words)) {
         free(cache);
         return NULL;
     }

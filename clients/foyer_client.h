@@ -1,4 +1,4 @@
-/* A client of foyerpipe: a disk cache of byte strings that runs as a program beside this one. Needs C11, POSIX and threads.
+/* A client of foyerpipe: a disk cache of byte strings that runs as a program beside this one. Needs C11, Linux and threads.
  *
  *     foyer_cache *cache = foyer_open("./foyerpipe", "/var/tmp/cache", "1073741824", "16777216", NULL);
  *     foyer_put(cache, "key", 3, "value", 5);

@@ -4,7 +4,7 @@ examples of docs/PIPE.md and of examples/.
 
 The C client is built with all warnings as errors, and its example with sanitizers, and run under valgrind if that is there. The cases:
 round trips of random bytes; thousands of gets at once; a reopening, with and without a log of deletes; a device that is full; limits;
-threads that share a cache; two caches of one process; a forked process; keys and values that are too long; bad words; a killed program; a
+threads that share a cache; two caches of one process; programs that inherit no pipe; a forked process; keys and values that are too long; bad words; a killed program; a
 caller that is interrupted; a killed caller. Only for the client in Python: tasks that share a cache; what is like bytes; many requests of
 which some are refused; errors that are new ones; a thread that can't read replies; exceptions from signals' handlers; openings and caches
 that are abandoned. Ends with status 0 if all held.
@@ -298,6 +298,26 @@ def two_caches(opened, rnd, room):
     one, other = opened(":memory:", 1 << 24, 1 << 20), opened(":memory:", 1 << 24, 1 << 20)
     check(one.put(b"a", b"1") and other.get(b"a") is None, "two caches share a key")
     check(one.close() == 0 and other.put(b"a", b"2") and other.close() == 0, "two caches don't close")
+
+
+def pipes_of(pid):
+    """The pipes that a process has an end of, by the numbers of its files."""
+    found = {}
+    for it in os.listdir("/proc/%d/fd" % pid):
+        with contextlib.suppress(FileNotFoundError):
+            found[int(it)] = os.readlink("/proc/%d/fd/%s" % (pid, it))
+    return {it: name for it, name in found.items() if name.startswith("pipe:")}
+
+
+def not_inherited(opened, rnd, room):
+    before = pipes_of(os.getpid())
+    with opened(":memory:", 1 << 24, 1 << 20), opened(":memory:", 1 << 24, 1 << 20):
+        mine = set(pipes_of(os.getpid()).values()) - set(before.values())
+        other = subprocess.Popen(["sleep", "60"], close_fds=False)
+        programs = [set(pipes_of(it).values()) & mine for it in own_programs()]
+        other.kill()
+        other.wait()
+        check(len(mine) == 4 and sorted(map(len, programs)) == [0, 2, 2], "programs have ends of pipes that aren't theirs: %r" % programs)
 
 
 def forked(opened, rnd, room):
@@ -620,7 +640,7 @@ def put_on(cache):
 
 
 CASES = [
-    round_trips, thousands_at_once, reopenings, full_device, limits, threads_share, tasks_share, two_caches, forked, one_holder, too_long,
+    round_trips, thousands_at_once, reopenings, full_device, limits, threads_share, tasks_share, two_caches, not_inherited, forked, one_holder, too_long,
     like_bytes, some_refused, bad_words, killed_program, ended_anew, failed_reader, interrupted, abandoned, interrupted_caller, killed_caller,
 ]
 
