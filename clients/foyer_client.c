@@ -1,5 +1,5 @@
 /* A client of foyerpipe: foyer_client.h says what each call does. */
-#define _GNU_SOURCE /* pipe2 */
+#define _GNU_SOURCE /* pipe2, F_GETPIPE_SZ */
 #include "foyer_client.h"
 
 #include <errno.h>
@@ -14,8 +14,8 @@
 
 enum { HEAD_LEN = 13, REPLY_LEN = 9, MOST_SETTINGS = 32, MOST_AT_ONCE = 256 };
 
-/* What one call may ask for before a reply is read: less than a pipe holds, so that neither side waits for the other for ever. */
-static const size_t AHEAD = 32 * 1024;
+/* The most bytes that one call asks for before a reply is read. */
+static const size_t MOST_AHEAD = 32 * 1024;
 
 /* The most bytes of a key and of a value that the program takes unless a setting says otherwise. */
 static const size_t KEY_LIMIT = 65536, VALUE_LIMIT = 67108864;
@@ -261,16 +261,24 @@ int foyer_counters(foyer_cache *cache, foyer_value *lines) {
     return call(cache, 'c', NULL, 0, NULL, 0, lines);
 }
 
+/* How many bytes one call may ask for before a reply is read, so that neither side waits for the other for ever: half of what the pipe holds, as half
+ * of a page may stay empty. If a user has many pipes, the system makes them of a page or two. If it doesn't say, one request at a time is sent. */
+static size_t ahead_of(const foyer_cache *cache) {
+    int size = fcntl(cache->to, F_GETPIPE_SZ);
+    size_t half = size < 0 ? 0 : (size_t)size / 2;
+    return half < MOST_AHEAD ? half : MOST_AHEAD;
+}
+
 int foyer_get_many(foyer_cache *cache, size_t count, const void *const *keys, const size_t *key_lens, int *codes, foyer_value *values) {
     struct asked asked[MOST_AT_ONCE];
-    size_t sent = 0, taken = 0, ahead = 0;
+    size_t sent = 0, taken = 0, ahead = 0, most_ahead = ahead_of(cache);
     int has_ended = 0;
     if (is_forked(cache)) {
         for (size_t i = 0; i < count; i++) codes[i] = FOYER_ENDED;
         return FOYER_ENDED;
     }
     while (taken < count) {
-        int is_room = sent < count && (sent == taken || (sent - taken < MOST_AT_ONCE && ahead + HEAD_LEN + key_lens[sent] <= AHEAD));
+        int is_room = sent < count && (sent == taken || (sent - taken < MOST_AT_ONCE && ahead + HEAD_LEN + key_lens[sent] <= most_ahead));
         if (is_room && sent == taken) pthread_mutex_lock(&cache->sending);
         else if (is_room && pthread_mutex_trylock(&cache->sending)) is_room = 0;
         if (is_room) {

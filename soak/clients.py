@@ -4,7 +4,7 @@ examples of docs/PIPE.md and of examples/.
 
 The C client is built with all warnings as errors, and its example with sanitizers, and run under valgrind if that is there. The cases:
 round trips of random bytes; thousands of gets at once; a reopening, with and without a log of deletes; a device that is full; limits;
-threads that share a cache; two caches of one process; programs that inherit no pipe; a forked process; keys and values that are too long; bad words; a killed program; a
+threads that share a cache; two caches of one process; pipes of one page; programs that inherit no pipe; a forked process; keys and values that are too long; bad words; a killed program; a
 caller that is interrupted; a killed caller. Only for the client in Python: tasks that share a cache; what is like bytes; many requests of
 which some are refused; errors that are new ones; a thread that can't read replies; exceptions from signals' handlers; openings and caches
 that are abandoned. Ends with status 0 if all held.
@@ -17,6 +17,7 @@ import asyncio
 import contextlib
 import ctypes
 import faulthandler
+import fcntl
 import gc
 import os
 import random
@@ -307,6 +308,18 @@ def pipes_of(pid):
         with contextlib.suppress(FileNotFoundError):
             found[int(it)] = os.readlink("/proc/%d/fd/%s" % (pid, it))
     return {it: name for it, name in found.items() if name.startswith("pipe:")}
+
+
+def small_pipes(opened, rnd, room):
+    before = pipes_of(os.getpid())
+    with opened(":memory:", 1 << 26, 1 << 20) as cache:
+        for it in set(pipes_of(os.getpid())) - set(before):
+            fcntl.fcntl(it, 1031, 4096)  # F_SETPIPE_SZ
+        pairs = values(rnd, 100, [10, 3000])
+        check(all(cache.put(*it) for it in pairs.items()), "a put isn't taken")
+        for asked in (list(pairs), [key + b"." * rnd.choice([0, 2000, 2030, 9000]) for key in pairs]):
+            asked *= 20
+            check(in_time(lambda: cache.get_many(asked)) == [pairs.get(it) for it in asked], "many through small pipes differ")
 
 
 def not_inherited(opened, rnd, room):
@@ -640,7 +653,7 @@ def put_on(cache):
 
 
 CASES = [
-    round_trips, thousands_at_once, reopenings, full_device, limits, threads_share, tasks_share, two_caches, not_inherited, forked, one_holder, too_long,
+    round_trips, thousands_at_once, reopenings, full_device, limits, threads_share, tasks_share, two_caches, small_pipes, not_inherited, forked, one_holder, too_long,
     like_bytes, some_refused, bad_words, killed_program, ended_anew, failed_reader, interrupted, abandoned, interrupted_caller, killed_caller,
 ]
 
