@@ -22,6 +22,7 @@ import gc
 import os
 import random
 import re
+import resource
 import shutil
 import signal
 import subprocess
@@ -698,6 +699,53 @@ def run_examples(program, room):
     check(said.endswith("all equal\n"), "the read-through example says %r" % said)
 
 
+# In place of rt: `lib` makes a crate's library, and `run` makes the program if it isn't there and all libraries are.
+STUB = r"""#!/usr/bin/env bash
+name=${PWD##*/}
+case $1 in
+    lib) mkdir -p out/rlib && touch out/rlib/{1..50} ;;
+    run) [ -x out/$name ] || { ls ../{a,b,c,d}/out/rlib/50 && mkdir -p out && printf '#!/bin/sh\n' > out/$name && chmod +x out/$name; } ;;
+esac
+"""
+
+
+def make_tree(tree):
+    """A tree of few crates with the scripts that run the program. Gives the environment with the stub of rt."""
+    of = {"a": "", "b": "a", "c": "a", "d": "b", "foyerpipe": "c d"}
+    for name in of:
+        os.makedirs("%s/crates/%s" % (tree, name))
+    with open(tree + "/crates/foyerpipe/args", "w") as it:
+        it.write(":memory:\n16384\n16384\n")
+    with open(tree + "/crates.txt", "w") as it:
+        it.writelines("%s: %s\n" % pair for pair in of.items())
+    for name in ("foyerdisk", "foyerpipe"):
+        shutil.copy("%s/%s" % (TOP, name), tree)
+    os.mkdir(tree + "/bin")
+    with open(tree + "/bin/rt", "w", opener=lambda path, flags: os.open(path, flags, 0o755)) as it:
+        it.write(STUB)
+    return dict(os.environ, PATH=tree + "/bin:" + os.environ["PATH"])
+
+
+def run_with_few_handles(program, room):
+    """The script takes as many handles as it may: 60 blocks take 180."""
+    tree = room + "/tree"
+    path = make_tree(tree)["PATH"]
+    os.mkdir(tree + "/crates/foyerpipe/out")
+    os.symlink(program, tree + "/crates/foyerpipe/out/foyerpipe")
+    before, (soft, hard) = os.environ["PATH"], resource.getrlimit(resource.RLIMIT_NOFILE)
+    resource.setrlimit(resource.RLIMIT_NOFILE, (100, hard))
+    os.environ["PATH"] = path
+    try:
+        with foyer_client.Cache(tree + "/foyerpipe", room + "/handles", 60 << 14, 1 << 14) as cache:
+            check(cache.put(b"k", b"v") and cache.get(b"k") == b"v", "a put isn't taken")
+        words = program, room + "/handles", 60 << 14, 1 << 14
+        check(refused(CacheEnded, lambda: foyer_client.Cache(*words)), "the soft limit of handles doesn't count")
+    finally:
+        os.environ["PATH"] = before
+        resource.setrlimit(resource.RLIMIT_NOFILE, (soft, hard))
+    shutil.rmtree(tree)
+
+
 def main():
     words = argparse.ArgumentParser(usage=__doc__.split("usage: ")[1])
     words.add_argument("--program", default=TOP + "/crates/foyerpipe/out/foyerpipe")
@@ -717,6 +765,8 @@ def main():
                 print("%s, readers=%d: %s" % (kind, readers, case.__name__.replace("_", " ")), flush=True)
         run_examples(program, room)
         print("the examples: all held")
+        run_with_few_handles(program, room)
+        print("the script: few handles")
     finally:
         shutil.rmtree(room, ignore_errors=True)
 
