@@ -1,13 +1,14 @@
 #!/usr/bin/env python3
-"""Asks foyerpipe through its clients in Python and in C, each by the same cases, without threads for gets and with two, and runs the
-examples of docs/PIPE.md and of examples/.
+"""Asks foyerpipe through its clients in Python and in C, each by the same cases, without threads for gets and with two. Runs the examples of
+docs/PIPE.md and of examples/, and the script foyerdisk with a stub in place of rt.
 
 The C client is built with all warnings as errors, and its example with sanitizers, and run under valgrind if that is there. The cases:
 round trips of random bytes; thousands of gets at once; a reopening, with and without a log of deletes; a device that is full; limits;
-threads that share a cache; two caches of one process; pipes of one page; programs that inherit no pipe; a forked process; keys and values that are too long; bad words; a killed program; a
-caller that is interrupted; a killed caller. Only for the client in Python: tasks that share a cache; what is like bytes; many requests of
-which some are refused; errors that are new ones; a thread that can't read replies; exceptions from signals' handlers; openings and caches
-that are abandoned. Ends with status 0 if all held.
+threads that share a cache; two caches of one process; pipes of one page; programs that inherit no pipe; a forked process; a directory that
+is in use; keys and values that are too long; bad words; a killed program; a caller that is interrupted; a killed caller. Only for the client
+in Python: tasks that share a cache; what is like bytes; many requests of which some are refused; errors that are new ones; a thread that
+can't read replies; exceptions from signals' handlers; openings and caches that are abandoned. The script: few handles, and two first runs.
+Ends with status 0 if all held.
 
 usage: clients.py [--program FILE] [--seed N]
 """
@@ -700,50 +701,84 @@ def run_examples(program, room):
 
 
 # In place of rt: `lib` makes a crate's library, and `run` makes the program if it isn't there and all libraries are.
-STUB = r"""#!/usr/bin/env bash
+RT = r"""#!/usr/bin/env bash
 name=${PWD##*/}
+echo "$1 $name $$" >> "$SAID"
 case $1 in
-    lib) mkdir -p out/rlib && touch out/rlib/{1..50} ;;
-    run) [ -x out/$name ] || { ls ../{a,b,c,d}/out/rlib/50 && mkdir -p out && printf '#!/bin/sh\n' > out/$name && chmod +x out/$name; } ;;
+    lib) mkdir -p out/rlib && touch out/rlib/{1..50} && exec sleep "$NAP" ;;
+    run) [ -x out/$name ] || { ls ../{a,b,c,d}/out/rlib/50 && mkdir -p out && cp "$(type -P true)" out/$name; } ;;
 esac
 """
+# In place of nproc, and of awk for the memory: so that several crates are proved at the same time.
+NPROC = "#!/bin/sh\necho 4\n"
+AWK = "#!/bin/sh\ncase $* in */proc/meminfo) echo 4 ;; *) exec %s \"$@\" ;; esac\n" % shutil.which("awk")
 
 
 def make_tree(tree):
-    """A tree of few crates with the scripts that run the program. Gives the environment with the stub of rt."""
+    """A tree of few crates with the scripts that run the program. Gives the environment to run them in."""
     of = {"a": "", "b": "a", "c": "a", "d": "b", "foyerpipe": "c d"}
-    for name in of:
-        os.makedirs("%s/crates/%s" % (tree, name))
-    with open(tree + "/crates/foyerpipe/args", "w") as it:
-        it.write(":memory:\n16384\n16384\n")
-    with open(tree + "/crates.txt", "w") as it:
-        it.writelines("%s: %s\n" % pair for pair in of.items())
+    texts = {"bin/rt": RT, "bin/nproc": NPROC, "bin/awk": AWK, "crates.txt": "".join("%s: %s\n" % pair for pair in of.items())}
+    texts.update(("crates/%s/args" % name, ":memory:\n16384\n16384\n") for name in of)
+    for name, text in texts.items():
+        path = "%s/%s" % (tree, name)
+        os.makedirs(os.path.dirname(path), exist_ok=True)
+        with open(path, "w") as it:
+            it.write(text)
+        os.chmod(path, 0o755)
     for name in ("foyerdisk", "foyerpipe"):
         shutil.copy("%s/%s" % (TOP, name), tree)
-    os.mkdir(tree + "/bin")
-    with open(tree + "/bin/rt", "w", opener=lambda path, flags: os.open(path, flags, 0o755)) as it:
-        it.write(STUB)
-    return dict(os.environ, PATH=tree + "/bin:" + os.environ["PATH"])
+    return dict(os.environ, PATH=tree + "/bin:" + os.environ["PATH"], SAID=tree + "/said", NAP="0")
 
 
 def run_with_few_handles(program, room):
     """The script takes as many handles as it may: 60 blocks take 180."""
     tree = room + "/tree"
-    path = make_tree(tree)["PATH"]
+    environment = make_tree(tree)
     os.mkdir(tree + "/crates/foyerpipe/out")
     os.symlink(program, tree + "/crates/foyerpipe/out/foyerpipe")
-    before, (soft, hard) = os.environ["PATH"], resource.getrlimit(resource.RLIMIT_NOFILE)
+    before, (soft, hard) = dict(os.environ), resource.getrlimit(resource.RLIMIT_NOFILE)
     resource.setrlimit(resource.RLIMIT_NOFILE, (100, hard))
-    os.environ["PATH"] = path
+    os.environ.update(environment)
     try:
         with foyer_client.Cache(tree + "/foyerpipe", room + "/handles", 60 << 14, 1 << 14) as cache:
             check(cache.put(b"k", b"v") and cache.get(b"k") == b"v", "a put isn't taken")
         words = program, room + "/handles", 60 << 14, 1 << 14
         check(refused(CacheEnded, lambda: foyer_client.Cache(*words)), "the soft limit of handles doesn't count")
     finally:
-        os.environ["PATH"] = before
+        os.environ.update(before)
         resource.setrlimit(resource.RLIMIT_NOFILE, (soft, hard))
-    shutil.rmtree(tree)
+
+
+def run_first_builds(room):
+    """Two first runs of the script in one tree: one builds, and the other waits. A first run that is ended leaves nothing."""
+    tree = room + "/builds"
+    environment = make_tree(tree)
+
+    def begin(nap):
+        words = [tree + "/foyerpipe", ":memory:", "16384", "16384"]
+        return subprocess.Popen(words, stdout=subprocess.PIPE, stderr=subprocess.PIPE, text=True, env=dict(environment, NAP=nap))
+
+    def lines():
+        with contextlib.suppress(FileNotFoundError), open(environment["SAID"]) as it:
+            return [line.split() for line in it]
+        return []
+
+    def await_a_job():
+        while not lines():
+            time.sleep(0.01)
+
+    ended = begin("600")
+    in_time(await_a_job)
+    ended.terminate()
+    check(in_time(ended.wait) == 1, "a first run isn't ended by a signal")
+    check(not any(os.path.exists("/proc/" + pid) for _, _, pid in lines()), "a first run leaves its jobs")
+    os.remove(environment["SAID"])
+    both = [begin("0.2"), begin("0.2")]
+    said = [in_time(it.communicate)[1] for it in both]
+    check([it.returncode for it in both] == [0, 0], "of two first runs one fails: %s" % "".join(said))
+    check(sum("waiting for another run" in it for it in said) == 1 or not shutil.which("flock"), "no first run waits for the other")
+    check(sorted(name for what, name, _ in lines() if what == "lib") == list("abcd"), "two first runs prove %r" % lines())
+    check(not [it for it in os.listdir(tree + "/out") if it.startswith("first.") and it != "first.lock"], "first runs leave copies")
 
 
 def main():
@@ -766,7 +801,8 @@ def main():
         run_examples(program, room)
         print("the examples: all held")
         run_with_few_handles(program, room)
-        print("the script: few handles")
+        run_first_builds(room)
+        print("the script: few handles, first runs")
     finally:
         shutil.rmtree(room, ignore_errors=True)
 
