@@ -88,7 +88,7 @@ module _ {K V P D : Type 0} (m : Meaning K V P) (byte_at : D → ℕ → ℕ →
     pub left : HasMadeStep old new step reply
     pub said : answered ≡ says (reply_brief reply)
 
-  -- this piece was handed in, under a number of the keeper; or the keeper had no room or no number for it, and nothing was done
+  -- this piece was handed in, under some number; or the keeper had no room or no number for it, and nothing was done
   abbrev pub IsEnqueued : (mine after : View (Told K V P Global D)) → (old new : SessionState) → (given : Record K V P) → (size : ℕ) → Result Enqueued Error → Type 0
   IsEnqueued mine after old new given size answered =
       ((piece : Referred K V P) × (piece.piece ≡ given) × IsAnswerTo enqueued_as mine after old new (steps.Enqueue piece size) answered)

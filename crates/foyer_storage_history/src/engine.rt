@@ -146,7 +146,8 @@ where
             ((mode ≡ recover_mode.None) ⊎ D.is_known disk) core) }
         ensures sizes { IfOk result (λ r. HasSizes (meaning K.encoding V.encoding K.is_encodable V.is_encodable K.is_decodable V.is_decodable P.age) D.byte_at r.1.told.witness.me.0.seen settings) }
         ensures sound { IfOk result (λ _. AreValid settings) }
-        ensures refused { IfErr result (λ e. (e ≡ Memory) ⊎ ((e ≡ Config) ⊎ ((e ≡ Recover) ⊎ (e ≡ SequenceEnd)))) }
+        ensures refused { IfErr result (λ e. (e ≡ Memory) ⊎ ((e ≡ Config) × ((settings.tombstone_log ≡ true) ⊎ (AreValid settings → ⊥)))
+            ⊎ ((e ≡ Recover) × (mode ≡ recover_mode.Strict)) ⊎ ((e ≡ SequenceEnd) × (mode ≡ recover_mode.None → ⊥))) }
     {
         if settings.tombstone_log {
             return Err(Error::Config);
