@@ -12,6 +12,7 @@ import asyncio
 import contextlib
 import functools
 import os
+import signal
 import struct
 import subprocess
 import tempfile
@@ -40,7 +41,8 @@ class CacheError(Exception):
 
 
 class CacheEnded(CacheError):
-    """The program has ended, perhaps because it couldn't open the cache. The text has its status and what it said."""
+    """The program has ended, perhaps because it couldn't open the cache. The text has its status and what it said. Or this is a forked
+    process, and the cache belongs to its parent."""
 
 
 class Throttled(CacheError):
@@ -129,9 +131,16 @@ class Cache:
             self._reader.start()
             self._call(b"h", b"")  # waits until the cache is open; raises CacheEnded if it can't be opened
         except BaseException:
-            self._program.kill()
-            self._program.wait()
+            self._kill()
             raise
+
+    # Ends the program, or the script that still builds it, with its jobs.
+    def _kill(self):
+        for how, seconds in ((signal.SIGTERM, 5), (signal.SIGKILL, None)):
+            with contextlib.suppress(ProcessLookupError, subprocess.TimeoutExpired):
+                if self._program.poll() is None:
+                    os.killpg(self._program.pid, how)
+                self._program.wait(seconds)
 
     # If nobody has the cache any more, its program writes what is queued, and ends.
     def __del__(self):

@@ -141,6 +141,19 @@ def own_programs():
     return mine
 
 
+def is_alive(pid):
+    try:
+        with open("/proc/%d/stat" % pid) as stat:
+            return stat.read().rsplit(")", 1)[1].split()[0] != "Z"
+    except (FileNotFoundError, ProcessLookupError):
+        return False
+
+
+def await_end(pid):
+    while is_alive(pid):
+        time.sleep(0.01)
+
+
 def await_programs(count):
     while len(own_programs()) != count:
         time.sleep(0.01)
@@ -599,6 +612,13 @@ def abandoned(opened, rnd, room):
             check(refused(KeyboardInterrupt, ask) and own_programs() == mine, "an interrupted opening leaves its program")
         check(refused(asyncio.TimeoutError, lambda: asyncio.run(ask_and_cancel())), "a cancelled opening goes on")
         check(cache.put(b"k", b"v"), "a put isn't taken")
+    with open(room + "/building", "w") as it:
+        it.write("#!/bin/sh\nsleep 600 & echo $! > %s/job\nwait\n" % room)
+    os.chmod(it.name, 0o755)
+    with alarm(0.3, raising(KeyboardInterrupt())):
+        check(refused(KeyboardInterrupt, lambda: foyer_client.Cache(it.name, ":memory:", 1 << 24)), "an opening isn't interrupted")
+    with open(room + "/job") as it:
+        in_time(lambda: await_end(int(it.read())))  # the job of an opening that was interrupted
     for value in (b"v", b"w"):
         cache = ask()
         check(cache.get(b"k") == value and cache.put(b"k", b"w"), "what was put is gone")
@@ -641,12 +661,7 @@ def killed_caller(opened, rnd, room):
     time.sleep(0.2)
     caller.kill()
     caller.wait()
-    for _ in range(1000):
-        if not os.path.exists("/proc/%d" % pid) or open("/proc/%d/stat" % pid).read().rsplit(")", 1)[1].split()[0] == "Z":
-            break
-        time.sleep(0.01)
-    else:
-        check(False, "the program goes on without its caller")
+    in_time(lambda: await_end(pid))
     with opened(room + "/caller", 1 << 24, 1 << 20) as cache:
         found = [cache.get(b"%d" % k) for k in range(100)]
         check(all(it in (None, b"%d " % k * 100) for k, it in enumerate(found)), "after a killed caller a value differs")
@@ -778,7 +793,7 @@ def run_first_builds(room):
     in_time(await_a_job)
     ended.terminate()
     check(in_time(ended.wait) == 1, "a first run isn't ended by a signal")
-    check(not any(os.path.exists("/proc/" + pid) for _, _, pid in lines()), "a first run leaves its jobs")
+    check(not any(is_alive(int(pid)) for _, _, pid in lines()), "a first run leaves its jobs")
     os.remove(environment["SAID"])
     both = [begin("0.2"), begin("0.2")]
     said = [in_time(it.communicate)[1] for it in both]
