@@ -215,8 +215,8 @@ static int take_reply(foyer_cache *cache, struct asked *own) {
     return own->code;
 }
 
-/* Whether this process is a forked one. Its requests and replies would mix with those of the process that opened the cache, and another thread of
- * that process may have had the locks. */
+/* Whether this process is a forked one. Its requests and replies would mix with those of the process that opened the cache, and a thread of that
+ * process may have had the locks. */
 static int is_forked(const foyer_cache *cache) { return getpid() != cache->owner; }
 
 static int call(foyer_cache *cache, char kind, const void *key, size_t key_len, const void *value, size_t value_len, foyer_value *found) {
@@ -261,8 +261,9 @@ int foyer_counters(foyer_cache *cache, foyer_value *lines) {
     return call(cache, 'c', NULL, 0, NULL, 0, lines);
 }
 
-/* How many bytes one call may ask for before a reply is read, so that neither side waits for the other for ever: half of what the pipe holds, as half
- * of a page may stay empty. If a user has many pipes, the system makes them of a page or two. If it doesn't say, one request at a time is sent. */
+/* How many bytes one call may ask for before a reply is read, so that neither side waits for the other for ever: half of what the pipe holds, as
+ * half of each page may stay empty. For a user who has many pipes, the system makes pipes of a page or two. If it doesn't say how much a pipe
+ * holds, one request at a time is sent. */
 static size_t ahead_of(const foyer_cache *cache) {
     int size = fcntl(cache->to, F_GETPIPE_SZ);
     size_t half = size < 0 ? 0 : (size_t)size / 2;
