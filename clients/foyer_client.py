@@ -224,7 +224,7 @@ class Cache:
     def _write(self, frame):
         stdin, self._sent, self._frame = self._program.stdin, [], len(frame)
         while sum(self._sent) < len(frame) and not stdin.closed:
-            # each write notes its count in C, where no signal's handler comes between the two
+            # each write notes its count in C, so that no signal's handler comes between the two
             self._sent.extend(map(stdin.write, [memoryview(frame)[sum(self._sent):]]))
 
     # If an exception, such as one of a signal's handler, cut the last frame, ends the input in it: so the program takes nothing for its rest.
