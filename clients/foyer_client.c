@@ -1,24 +1,34 @@
 /* A client of foyerpipe: foyer_client.h says what each call does. */
-#define _GNU_SOURCE /* pipe2, F_GETPIPE_SZ */
+#define _GNU_SOURCE /* pipe2, F_GETPIPE_SZ, syscall */
 #include "foyer_client.h"
 
 #include <errno.h>
 #include <fcntl.h>
+#include <poll.h>
 #include <pthread.h>
 #include <signal.h>
 #include <stdlib.h>
 #include <string.h>
+#include <sys/resource.h>
+#include <sys/syscall.h>
 #include <sys/types.h>
 #include <sys/wait.h>
+#include <time.h>
 #include <unistd.h>
 
 enum { HEAD_LEN = 13, REPLY_LEN = 9, MOST_SETTINGS = 32, MOST_AT_ONCE = 256 };
 
+/* How long a program may take to say that it is foyerpipe, and how long one that is ended may take to end its jobs. */
+enum { START_MILLISECONDS = 60 * 1000, END_MILLISECONDS = 5 * 1000 };
+
+/* What the reply to a first request `v` begins with, and its bytes: the version of the frames stands behind the name. The most bytes of a key
+ * and of a value follow, and then a text. */
+static const unsigned char GREETS[5] = {1, 0, 0, 0, FOYER_DONE};
+static const unsigned char NAME[14] = "foyerpipe\n\1\0\0";
+enum { GREETING_LEN = 22, MOST_GREETING = 1024 };
+
 /* The most bytes that one call asks for before a reply is read. */
 static const size_t MOST_AHEAD = 32 * 1024;
-
-/* The most bytes of a key and of a value that the program takes unless a setting says otherwise. */
-static const size_t KEY_LIMIT = 65536, VALUE_LIMIT = 67108864;
 
 /* A request whose reply is awaited, in the memory of the thread that asked. */
 struct asked {
@@ -27,14 +37,21 @@ struct asked {
     int code;
     foyer_value *value; /* where a value goes, or NULL */
     struct asked *next;
+    pthread_cond_t *changed; /* what its thread waits for, or NULL if it doesn't wait */
+};
+
+/* A thread that waits while another one reads replies. Each has a condition of its own, so that a reply wakes only the thread that asked. */
+struct waiter {
+    pthread_cond_t changed;
+    struct waiter *next, **place;
 };
 
 /* Threads send under one lock, and one of those that wait reads replies, for itself and for the others. Who has a reply to come never waits for
  * the lock of sending without reading, so that a program that waits for its replies to be read goes on. */
 struct foyer_cache {
     pthread_mutex_t sending, known;
-    pthread_cond_t changed;
     struct asked *awaited; /* this and what follows is looked at under `known` */
+    struct waiter *waiting;
     int is_reading, has_ended;
     uint32_t number;
     size_t key_limit, value_limit; /* what the program takes in a frame: it ends after a longer one */
@@ -113,6 +130,19 @@ static void release_signal(const held_signal *held) {
     pthread_sigmask(SIG_SETMASK, &held->mask, NULL);
 }
 
+/* The cache has ended: all who wait must know. */
+static void note_end(foyer_cache *cache) {
+    cache->has_ended = 1;
+    for (struct waiter *it = cache->waiting; it != NULL; it = it->next) pthread_cond_signal(&it->changed);
+}
+
+static void put_head(unsigned char head[HEAD_LEN], char kind, uint32_t number, size_t key_len, size_t value_len) {
+    head[0] = (unsigned char)kind;
+    put_number(head + 1, number);
+    put_number(head + 5, (uint32_t)key_len);
+    put_number(head + 9, (uint32_t)value_len);
+}
+
 /* The code of a request whose key is longer than any that the program takes, so that the cache can't have it. */
 static int code_of_long_key(char kind) {
     switch (kind) {
@@ -133,20 +163,17 @@ static void send_request(foyer_cache *cache, struct asked *own, char kind, const
     own->state = is_sent ? AWAITED : DONE;
     own->code = failed || is_sent ? FOYER_ENDED : code_of_long_key(kind);
     own->next = cache->awaited;
+    own->changed = NULL;
     if (is_sent) cache->awaited = own;
     pthread_mutex_unlock(&cache->known);
     if (!is_sent) return;
-    head[0] = (unsigned char)kind;
-    put_number(head + 1, own->number);
-    put_number(head + 5, (uint32_t)key_len);
-    put_number(head + 9, (uint32_t)value_len);
+    put_head(head, kind, own->number, key_len, value_len);
     hold_signal(&held);
     failed = send_all(cache, head, sizeof head) || send_all(cache, key, key_len) || send_all(cache, value, value_len);
     release_signal(&held);
     if (!failed) return;
     pthread_mutex_lock(&cache->known);
-    cache->has_ended = 1;
-    pthread_cond_broadcast(&cache->changed);
+    note_end(cache);
     pthread_mutex_unlock(&cache->known);
 }
 
@@ -192,8 +219,23 @@ static void read_reply(foyer_cache *cache) {
     if (whose != NULL) {
         whose->code = code;
         whose->state = DONE;
+        if (whose->changed != NULL) pthread_cond_signal(whose->changed);
     }
-    if (code == FOYER_ENDED) cache->has_ended = 1;
+    if (code == FOYER_ENDED) note_end(cache);
+}
+
+/* Waits until its own reply has come, or this thread is to read. Its caller has the lock of what is known. */
+static void wait_for_change(foyer_cache *cache, struct asked *own) {
+    struct waiter self = {.next = cache->waiting, .place = &cache->waiting};
+    pthread_cond_init(&self.changed, NULL);
+    if (self.next != NULL) self.next->place = &self.next;
+    cache->waiting = &self;
+    own->changed = &self.changed;
+    pthread_cond_wait(&self.changed, &cache->known);
+    own->changed = NULL;
+    *self.place = self.next;
+    if (self.next != NULL) self.next->place = self.place;
+    pthread_cond_destroy(&self.changed);
 }
 
 /* Waits for the reply to a request: its code. */
@@ -201,15 +243,18 @@ static int take_reply(foyer_cache *cache, struct asked *own) {
     pthread_mutex_lock(&cache->known);
     while (own->state != DONE && !(own->state == AWAITED && cache->has_ended)) {
         if (cache->is_reading) {
-            pthread_cond_wait(&cache->changed, &cache->known);
+            wait_for_change(cache, own);
             continue;
         }
         cache->is_reading = 1;
-        pthread_mutex_unlock(&cache->known);
-        read_reply(cache); /* has the lock again */
+        do {
+            pthread_mutex_unlock(&cache->known);
+            read_reply(cache); /* has the lock again */
+        } while (own->state != DONE && !cache->has_ended);
         cache->is_reading = 0;
-        pthread_cond_broadcast(&cache->changed);
     }
+    /* One of those that wait reads now. If that one was woken for a reply of its own, it comes here, too. */
+    if (!cache->is_reading && cache->waiting != NULL) pthread_cond_signal(&cache->waiting->changed);
     if (own->state == AWAITED) take_awaited(cache, own->number);
     pthread_mutex_unlock(&cache->known);
     return own->code;
@@ -315,61 +360,179 @@ static int make_pipe(int ends[2]) {
     return -1;
 }
 
-/* Starts the program with pipes at its standard input and output, and in a session of its own: a Ctrl-C, or another signal to the process group,
- * would end it before it is closed. */
-static int start(foyer_cache *cache, const char *const *words) {
-    int to[2], from[2];
-    if (make_pipe(to)) return -1;
-    if (make_pipe(from)) {
-        close_ends(to);
+/* What this process has open, such as its sockets, isn't the program's. Between a fork and an exec only calls of the system are safe. */
+static void close_others_on_exec(void) {
+    struct rlimit most = {0, 0};
+#ifdef SYS_close_range
+    if (syscall(SYS_close_range, 3U, ~0U, 1U << 2 /* CLOSE_RANGE_CLOEXEC */) == 0) return;
+#endif
+    getrlimit(RLIMIT_NOFILE, &most);
+    for (int i = 3; i < 65536 && (rlim_t)i < most.rlim_cur; i++) fcntl(i, F_SETFD, FD_CLOEXEC);
+}
+
+/* Becomes the program, in a session of its own: a Ctrl-C, or another signal to the process group, would end it before it is closed. Signals
+ * that are blocked here reach it. If it can't be started, says why. */
+static void become(const char *const *words, int input, int output, int failure) {
+    sigset_t none;
+    int why;
+    setsid();
+    close_others_on_exec();
+    sigemptyset(&none);
+    if (dup2(input, 0) == 0 && dup2(output, 1) == 1 && sigprocmask(SIG_SETMASK, &none, NULL) == 0) execvp(words[0], (char *const *)words);
+    why = errno;
+    while (write(failure, &why, sizeof why) < 0 && errno == EINTR) {
+    }
+    _exit(127);
+}
+
+/* Makes the pipes of a program: its input, its output, and one that says why it couldn't be started. */
+static int make_pipes(int pipes[3][2]) {
+    for (int i = 0; i < 3; i++) {
+        if (make_pipe(pipes[i]) == 0) continue;
+        while (i-- > 0) close_ends(pipes[i]);
         return -1;
     }
+    return 0;
+}
+
+static void reap(const foyer_cache *cache, int *status) {
+    while (waitpid(cache->program, status, 0) < 0 && errno == EINTR) {
+    }
+}
+
+/* Starts the program with pipes at its standard input and output. */
+static int start(foyer_cache *cache, const char *const *words) {
+    int pipes[3][2], why = 0, status;
+    if (make_pipes(pipes)) return -1;
     cache->owner = getpid();
     cache->program = fork();
-    if (cache->program == 0) {
-        setsid();
-        if (dup2(to[0], 0) == 0 && dup2(from[1], 1) == 1) execvp(words[0], (char *const *)words);
-        _exit(127);
+    if (cache->program == 0) become(words, pipes[0][0], pipes[1][1], pipes[2][1]);
+    if (cache->program < 0) why = errno;
+    close(pipes[0][0]);
+    close(pipes[1][1]);
+    close(pipes[2][1]);
+    cache->to = pipes[0][1];
+    cache->from = pipes[1][0];
+    /* it ends when the program has begun */
+    while (read(pipes[2][0], &why, sizeof why) < 0 && errno == EINTR) {
     }
-    close(to[0]);
-    close(from[1]);
-    cache->to = to[1];
-    cache->from = from[0];
-    if (cache->program > 0) return 0;
+    close(pipes[2][0]);
+    if (why == 0) return 0;
+    if (cache->program > 0) reap(cache, &status);
     close(cache->to);
     close(cache->from);
+    errno = why;
     return -1;
 }
 
-/* The number of the last setting NAME=NUMBER, or `usual` if there is none. */
-static size_t number_of(const char *name, const char *const *settings, size_t usual) {
-    size_t len = strlen(name);
-    for (; settings != NULL && *settings != NULL; settings++) {
-        if (strncmp(*settings, name, len) == 0 && (*settings)[len] == '=') usual = (size_t)strtoull(*settings + len + 1, NULL, 10);
+static int64_t milliseconds_now(void) {
+    struct timespec now;
+    clock_gettime(CLOCK_MONOTONIC, &now);
+    return (int64_t)now.tv_sec * 1000 + now.tv_nsec / 1000000;
+}
+
+/* Waits until the program has written something, until a moment, or for ever if that is less than 0. */
+static int await_output(const foyer_cache *cache, int64_t until) {
+    for (;;) {
+        struct pollfd output = {.fd = cache->from, .events = POLLIN};
+        int64_t left = until < 0 ? -1 : until - milliseconds_now();
+        int ready = poll(&output, 1, until >= 0 && left < 0 ? 0 : (int)left);
+        if (ready > 0) return 0;
+        if (ready < 0 && errno == EINTR) continue;
+        if (ready == 0) errno = ETIMEDOUT;
+        return -1;
     }
-    return usual;
+}
+
+/* Reads the program's first bytes, no more than these, as long as they begin as those that are known. */
+static int take_first(const foyer_cache *cache, unsigned char *bytes, size_t len, const unsigned char *known, size_t known_len, int64_t until) {
+    for (size_t have = 0; have < len;) {
+        if (await_output(cache, until)) return -1;
+        ssize_t count = read(cache->from, bytes + have, len - have);
+        if (count < 0 && errno == EINTR) continue;
+        if (count == 0) errno = EPIPE;
+        if (count <= 0) return -1;
+        have += (size_t)count;
+        if (memcmp(bytes, known, have < known_len ? have : known_len) != 0) {
+            errno = EPROTO;
+            return -1;
+        }
+    }
+    return 0;
+}
+
+/* Asks which program this is, before anything that it writes is believed. */
+static int greet(foyer_cache *cache, int milliseconds) {
+    unsigned char head[HEAD_LEN], reply[REPLY_LEN], greeting[MOST_GREETING];
+    int64_t until = milliseconds < 0 ? -1 : milliseconds_now() + milliseconds;
+    held_signal held;
+    put_head(head, 'v', ++cache->number, 0, 0);
+    hold_signal(&held);
+    (void)send_all(cache, head, sizeof head); /* if the program has ended, its output has, too */
+    release_signal(&held);
+    if (take_first(cache, reply, sizeof reply, GREETS, sizeof GREETS, until)) return -1;
+    size_t len = number_at(reply + 5);
+    if (len < GREETING_LEN || len > sizeof greeting) {
+        errno = EPROTO;
+        return -1;
+    }
+    if (take_first(cache, greeting, len, NAME, sizeof NAME, until)) return -1;
+    cache->key_limit = number_at(greeting + sizeof NAME);
+    cache->value_limit = number_at(greeting + sizeof NAME + 4);
+    return 0;
+}
+
+/* Ends the program, or the script that still builds it, with its jobs. */
+static void end_program(const foyer_cache *cache) {
+    const struct timespec moment = {0, 10 * 1000 * 1000};
+    int64_t until = milliseconds_now() + END_MILLISECONDS;
+    int status;
+    kill(-cache->program, SIGTERM);
+    while (waitpid(cache->program, &status, WNOHANG) == 0) {
+        if (milliseconds_now() >= until) {
+            kill(-cache->program, SIGKILL);
+            reap(cache, &status);
+            return;
+        }
+        nanosleep(&moment, NULL);
+    }
 }
 
 foyer_cache *foyer_open(const char *program, const char *directory, const char *capacity, const char *block, const char *const *settings) {
+    return foyer_open_within(program, directory, capacity, block, settings, START_MILLISECONDS);
+}
+
+foyer_cache *foyer_open_within(const char *program, const char *directory, const char *capacity, const char *block, const char *const *settings,
+                               int milliseconds) {
     const char *words[5 + MOST_SETTINGS] = {program, directory, capacity, block};
     int count = 4;
     for (const char *const *setting = settings; setting != NULL && *setting != NULL; setting++) {
-        if (count == 4 + MOST_SETTINGS) return NULL;
+        if (count == 4 + MOST_SETTINGS) {
+            errno = E2BIG;
+            return NULL;
+        }
         words[count++] = *setting;
     }
     foyer_cache *cache = calloc(1, sizeof *cache);
     if (cache == NULL) return NULL;
-    cache->key_limit = number_of("key", settings, KEY_LIMIT);
-    cache->value_limit = number_of("value", settings, VALUE_LIMIT);
     if (start(cache, words)) {
         free(cache);
         return NULL;
     }
+    if (greet(cache, milliseconds)) {
+        int why = errno;
+        end_program(cache);
+        close(cache->to);
+        close(cache->from);
+        free(cache);
+        errno = why;
+        return NULL;
+    }
     pthread_mutex_init(&cache->sending, NULL);
     pthread_mutex_init(&cache->known, NULL);
-    pthread_cond_init(&cache->changed, NULL);
     if (foyer_contains(cache, NULL, 0) == FOYER_ENDED) {
         foyer_close(cache);
+        errno = EPIPE;
         return NULL;
     }
     return cache;
@@ -390,12 +553,10 @@ int foyer_close(foyer_cache *cache) {
         }
     }
     close(cache->from);
-    while (waitpid(cache->program, &status, 0) < 0 && errno == EINTR) {
-    }
+    reap(cache, &status);
     status = WIFEXITED(status) ? WEXITSTATUS(status) : -1;
     pthread_mutex_destroy(&cache->sending);
     pthread_mutex_destroy(&cache->known);
-    pthread_cond_destroy(&cache->changed);
     free(cache);
     return status;
 }

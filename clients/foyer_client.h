@@ -19,6 +19,10 @@
 #include <stddef.h>
 #include <stdint.h>
 
+#ifdef __cplusplus
+extern "C" {
+#endif
+
 typedef struct foyer_cache foyer_cache;
 
 /* The codes that calls give: those of foyerpipe, of which 65 to 77 are errors, and two of this client. */
@@ -27,7 +31,7 @@ enum {
     FOYER_ENTRY = 1,
     FOYER_MISS = 2,
     FOYER_IGNORED = 3,
-    FOYER_DELETED = 4,   /* a put that isn't taken, since too much is queued or its value or key is too long: its key is deleted */
+    FOYER_DELETED = 4,   /* a put that isn't taken, since it found no room in time, or its value or key is too long: its key is deleted */
     FOYER_THROTTLED = 5, /* a limit of reads holds the get back */
     FOYER_YES = 6,
     FOYER_NO = 7,
@@ -55,16 +59,28 @@ typedef struct {
 } foyer_value;
 
 /* Starts the program over a directory, or over memory for ":memory:". The sizes are bytes in decimal digits. Settings are words such as
- * "flushers=2", at most 32, with NULL after the last, or NULL for none. The cache is open when this returns. Gives NULL if memory is refused,
- * there are too many settings, the program couldn't be started, or it ended. A program that can't open the cache says why on standard
- * error. */
+ * "flushers=2", at most 32, with NULL after the last, or NULL for none. The cache is open when this returns. Before anything else is believed,
+ * the program has 60 seconds to say that it is foyerpipe. Gives NULL, and errno says why:
+ *     EPROTO     what answers isn't foyerpipe, or an older one
+ *     ETIMEDOUT  nothing answers in time
+ *     EPIPE      the program ended; if it couldn't open the cache, it has said why on standard error
+ *     E2BIG      there are more than 32 settings
+ *     others     the error of the call that failed, such as ENOENT if there is no such program
+ * The program doesn't run any more then. */
 foyer_cache *foyer_open(const char *program, const char *directory, const char *capacity, const char *block, const char *const *settings);
+
+/* The same, if the program has so many milliseconds to say that it is foyerpipe, or as long as it takes if they are less than 0. */
+foyer_cache *foyer_open_within(const char *program, const char *directory, const char *capacity, const char *block, const char *const *settings,
+                               int milliseconds);
 
 /* A key longer than the setting key=N is never in the cache, and a value longer than value=N never taken: such frames aren't sent. */
 int foyer_put(foyer_cache *cache, const void *key, size_t key_len, const void *value, size_t value_len);
 int foyer_get(foyer_cache *cache, const void *key, size_t key_len, foyer_value *value);
 int foyer_delete(foyer_cache *cache, const void *key, size_t key_len);
 int foyer_contains(foyer_cache *cache, const void *key, size_t key_len);
+
+/* Waits until all that was put before is written or abandoned. Gives FOYER_IO if puts since the last wait were answered FOYER_DONE and then
+ * abandoned, since a write failed, memory was refused or they fit nowhere. */
 int foyer_wait(foyer_cache *cache);
 int foyer_destroy(foyer_cache *cache);
 
@@ -76,7 +92,12 @@ int foyer_counters(foyer_cache *cache, foyer_value *lines);
 int foyer_get_many(foyer_cache *cache, size_t count, const void *const *keys, const size_t *key_lens, int *codes, foyer_value *values);
 
 /* Ends the program, which first writes what is queued, and frees the cache. No other call may be under way or follow. Gives the exit
- * status, 0 if all went well, or -1 if there is none. In a forked child it only frees what the child has, and gives -1. */
+ * status, 0 if all went well, or -1 if there is none. It is 1 if puts since the last wait were abandoned. In a forked child it only frees what
+ * the child has, and gives -1. */
 int foyer_close(foyer_cache *cache);
+
+#ifdef __cplusplus
+}
+#endif
 
 #endif

@@ -12,24 +12,29 @@ import asyncio
 import contextlib
 import functools
 import os
+import select
 import signal
 import struct
 import subprocess
 import tempfile
 import threading
+import time
 import weakref
 from concurrent.futures import ThreadPoolExecutor
 from queue import SimpleQueue
 
 DONE, ENTRY, MISS, IGNORED, DELETED, THROTTLED, YES, NO = range(8)
+IO = 65
 ERRORS = dict(enumerate("Io Memory Config Parse MagicMismatch ChecksumMismatch OutOfRange BufferSizeLimit NoSpace Recover Closed "
                         "Unsupported SequenceEnd".split(), 65))
 FAULTS = dict(enumerate("a short frame,an unknown kind,a key that is too long,a value that is too long,a key that isn't asked for,"
                         "a value that isn't asked for".split(","), 128))
-LIMITS = {"key": 65536, "value": 67108864}  # what the program takes in a frame, unless an option says otherwise
 LONG_KEY = {b"p": DELETED, b"g": MISS, b"h": NO, b"d": DONE}  # what a key is answered that is too long for any frame
 REQUEST = struct.Struct("<cIII")
 REPLY = struct.Struct("<IBI")
+GREETING = struct.Struct("<10sIII")  # a name, the version of the frames, the most bytes of a key, and of a value; a text follows
+NAME, FRAMES, MOST_GREETING = b"foyerpipe\n", 1, 1024
+GREETS, OLDER = REPLY.pack(1, DONE, 0)[:5], REPLY.pack(0, 129, 0)  # replies to a first request `v`: an older program doesn't know it
 
 
 class CacheError(Exception):
@@ -110,12 +115,14 @@ os.register_at_fork(after_in_child=_close_copies)
 class Cache:
     """A cache in a directory, or in memory for the directory `:memory:`. Options are those of the program: flushers=2, log=1, ..
     A key that is longer than the option key=N is never in the cache, and a value that is longer than value=N is never taken. Keys and values
-    are bytes, or what has bytes side by side, such as a memoryview or an array: then all of its bytes count, whatever its len() is."""
+    are bytes, or what has bytes side by side, such as a memoryview or an array: then all of its bytes count, whatever its len() is.
+
+    The program first has `start_seconds` to say that it is foyerpipe, or as long as it takes for None. An opening that finds another program,
+    or an older foyerpipe, raises CacheError, and ends that program. If the program ends, or can't open the cache, it raises CacheEnded."""
 
     _program = _fault = None
 
-    def __init__(self, program, directory, capacity, block_size=1 << 24, **options):
-        self._limits = {name: int(options.get(name, usual)) for name, usual in LIMITS.items()}
+    def __init__(self, program, directory, capacity, block_size=1 << 24, *, start_seconds=60, **options):
         words = [program, directory, str(capacity), str(block_size)] + ["%s=%s" % it for it in options.items()]
         self._errors, self._owner = tempfile.TemporaryFile(), os.getpid()
         # in a session of its own: a Ctrl-C, or another signal to the process group, would end it before it is closed
@@ -124,15 +131,55 @@ class Cache:
         self._sending = threading.Lock()
         self._known = threading.Lock()
         self._waiting, self._number, self._ended = {}, 0, None
+        self._closings = []  # what closes were answered
         self._sent, self._frame = [], 0  # how many bytes of the last frame each write sent, and how many the frame has
         self._reader = threading.Thread(target=_read, args=(weakref.ref(self), self._program), daemon=True)
         try:
             _caches.add(self)
+            self._greet(start_seconds)
             self._reader.start()
             self._call(b"h", b"")  # waits until the cache is open; raises CacheEnded if it can't be opened
         except BaseException:
             self._kill()
             raise
+
+    # Asks which program this is, before anything that it writes is believed.
+    def _greet(self, seconds):
+        with contextlib.suppress(BrokenPipeError):
+            self._program.stdin.write(REQUEST.pack(b"v", 1, 0, 0))
+        self._number = 1
+        until = None if seconds is None else time.monotonic() + seconds
+        head = self._read_first(REPLY.size, (GREETS, OLDER), until)
+        if head == OLDER:
+            raise CacheError("the program is an older foyerpipe, which this client can't use")
+        length = REPLY.unpack(head)[2]
+        if not GREETING.size <= length <= MOST_GREETING:
+            raise CacheError("the program isn't foyerpipe: its first reply has %d bytes" % length)
+        _, frames, key, value = GREETING.unpack_from(self._read_first(length, (NAME,), until))
+        if frames != FRAMES:
+            raise CacheError("the program is another foyerpipe, whose frames have version %d" % frames)
+        self._limits = {"key": key, "value": value}
+
+    # Reads the program's first bytes, no more than these, as long as they begin like one of those that are known.
+    def _read_first(self, count, known, until):
+        output, found, poll = self._program.stdout, b"", select.poll()
+        poll.register(output, select.POLLIN)
+        while len(found) < count:
+            left = 1000 if until is None else until - time.monotonic()
+            if not poll.poll(1000 * min(max(left, 0), 1000)):
+                if left > 0:
+                    continue
+                raise CacheError("the program didn't say in time that it is foyerpipe" + self._said())
+            more = output.read(count - len(found))
+            if not more:
+                with contextlib.suppress(subprocess.TimeoutExpired):
+                    self._program.wait(5)
+                    raise CacheEnded(self._last_words(None))
+                raise CacheError("the program isn't foyerpipe: it closed its output" + self._said())
+            found += more
+            if not any(it[:len(found)] == found[:len(it)] for it in known):
+                raise CacheError("the program isn't foyerpipe: its output begins with %r%s" % (found, self._said()))
+        return found
 
     # Ends the program, or the script that still builds it, with its jobs.
     def _kill(self):
@@ -181,12 +228,16 @@ class Cache:
 
     def _last_words(self, fault):
         status = self._program.wait()
-        self._errors.seek(0)
-        said = self._errors.read().decode("utf-8", "replace").strip()
-        return "the program ended with status %d%s%s" % (status, ": " + said if said else "", ", after " + fault if fault else "")
+        return "the program ended with status %d%s%s" % (status, self._said(), ", after " + fault if fault else "")
 
-    # Sends a request. Its answer goes to `give`: a code with bytes, or a text if the cache has ended.
-    def _send(self, give, kind, key=b"", value=b""):
+    # What the program printed on standard error, after a colon.
+    def _said(self):
+        said = os.pread(self._errors.fileno(), 1 << 20, 0).decode("utf-8", "replace").strip()
+        return ": " + said if said else ""
+
+    # Sends a request. Its answer goes to `give`: a code with bytes, or a text if the cache has ended. Behind the last one the input ends, so that
+    # no other call comes between: the program would refuse it, and it is to find the cache ended.
+    def _send(self, give, kind, key=b"", value=b"", is_last=False):
         self._check_owner()
         key, value = _bytes_of(key), _bytes_of(value)
         if value.nbytes > self._limits["value"]:
@@ -208,6 +259,8 @@ class Cache:
                 self._waiting[number] = give
             try:
                 self._write(frame)
+                if is_last:
+                    self._program.stdin.close()
             except BrokenPipeError:
                 self._program.stdin.close()  # the reader notices the end, and ends all waiting calls
             except BaseException:
@@ -257,8 +310,8 @@ class Cache:
         return found
 
     def put(self, key, value):
-        """Puts a value. False if it isn't taken, since it is too long, too much is queued or a limit holds it back: then its key is
-        deleted."""
+        """Puts a value. False if it isn't taken, since it is too long, found no room in time or a limit holds it back: then its key is
+        deleted. A value that is taken is queued, and may still be abandoned before it is written: a wait or a close tells."""
         return self._call(b"p", key, value)[0] == DONE
 
     def put_many(self, pairs, return_exceptions=False):
@@ -307,11 +360,12 @@ class Cache:
         return self._call(b"h", key)[0] == YES
 
     def delete(self, key):
-        """Deletes a key. A value that is queued is answered until it is written or given up."""
+        """Deletes a key, also if its value is still queued."""
         self._call(b"d", key)
 
     def wait(self):
-        """Waits until all that was put before is written or given up, and no reclaim runs."""
+        """Waits until all that was put before is written or abandoned, and no reclaim runs. Raises CacheError("Io") if puts that were taken since
+        the last wait have been abandoned, since a write failed, memory was refused or they fit nowhere."""
         self._call(b"w")
 
     def counters(self):
@@ -324,22 +378,30 @@ class Cache:
         self._call(b"x")
 
     def close(self):
-        """Ends the program, which first writes what is queued. Gives its status, 0 if all went well. In a forked process does nothing, and
-        gives None."""
+        """Ends the program, which first writes what is queued. Gives its status, 0 if all went well. Raises CacheError("Io") as a wait does, once
+        the program has ended. A second close does nothing. In a forked process does nothing, and gives None."""
         if os.getpid() != self._owner:
             return None
+        self._send(self._closings.append, b"q", is_last=True)
         with self._sending:
             self._program.stdin.close()
         self._reader.join()
         self._program.stdout.close()
         self._errors.close()
+        answers, self._closings = self._closings, []
+        if (IO, b"") in answers:
+            raise CacheError(ERRORS[IO])
         return self._program.returncode
 
     def __enter__(self):
         return self
 
-    def __exit__(self, *_):
-        self.close()
+    def __exit__(self, kind, *_):
+        try:
+            self.close()
+        except CacheError:
+            if kind is None:  # otherwise the body's own exception goes on
+                raise
 
 
 # Closes a cache that is open only after nobody waits for it any more.
@@ -354,15 +416,18 @@ class AsyncCache:
 
     def __init__(self, *words, **options):
         self._open = functools.partial(Cache, *words, **options)
+        self._cache = self._status = None
         self._thread = ThreadPoolExecutor(1)  # writing to a full pipe would block the loop
 
     async def _run(self, call, *words):
+        if self._cache is None:
+            raise CacheEnded("the cache isn't open")
         self._cache._check_owner()
-        return await asyncio.get_running_loop().run_in_executor(self._thread, call, *words)
+        return await asyncio.get_running_loop().run_in_executor(self._thread, call, self._cache, *words)
 
     async def _ask(self, kind, key=b"", value=b""):
         answer = asyncio.get_running_loop().create_future()
-        await self._run(self._cache._send, functools.partial(_give_task, answer), kind, key, value)
+        await self._run(Cache._send, functools.partial(_give_task, answer), kind, key, value)
         return Cache._taken(await answer)
 
     async def put(self, key, value):
@@ -398,12 +463,18 @@ class AsyncCache:
         await self._ask(b"x")
 
     async def counters(self):
-        return await self._run(self._cache.counters)
+        return await self._run(Cache.counters)
 
     async def close(self):
-        status = await self._run(self._cache.close)
-        self._thread.shutdown()
-        return status
+        cache = self._cache
+        if cache is not None:
+            try:
+                await self._run(Cache.close)
+            finally:
+                if cache._program.returncode is not None:  # else the close was cancelled
+                    self._cache, self._status = None, cache._program.returncode
+                    self._thread.shutdown(wait=False)
+        return self._status
 
     async def __aenter__(self):
         opening = self._thread.submit(self._open)
@@ -414,5 +485,9 @@ class AsyncCache:
             raise
         return self
 
-    async def __aexit__(self, *_):
-        await self.close()
+    async def __aexit__(self, kind, *_):
+        try:
+            await self.close()
+        except CacheError:
+            if kind is None:
+                raise

@@ -3,12 +3,13 @@
 docs/PIPE.md and of examples/, and the script foyerdisk with a stub in place of rt.
 
 The C client is built with all warnings as errors, and its example with sanitizers, and run under valgrind if that is there. The cases:
-round trips of random bytes; thousands of gets at once; a reopening, with and without a log of deletes; a device that is full; limits;
-threads that share a cache; two caches of one process; pipes of one page; programs that inherit no pipe; a forked process; a directory that
-is in use; keys and values that are too long; bad words; a killed program; a caller that is interrupted; a killed caller. Only for the client
-in Python: tasks that share a cache; what is like bytes; many requests of which some are refused; errors that are new ones; a thread that
-can't read replies; exceptions from signals' handlers; openings and caches that are abandoned. The script: few handles, and two first runs.
-Ends with status 0 if all held.
+round trips of random bytes; thousands of gets at once; a reopening, with and without a log of deletes; a device that is full; a disk that is
+full; values that are given up; values that wait for room; deletes of values that are queued; limits; threads that share a cache; two caches of
+one process; pipes of one page; programs that inherit no pipe, no socket and no blocked signal; a forked process; a directory that is in use,
+and one that can't be opened; keys and values that are too long; bad words; children that aren't foyerpipe; a killed program; a caller that is
+interrupted; a killed caller. Only for the client in Python: tasks that share a cache, before it is open and after its close; what is like
+bytes; many requests of which some are refused; errors that are new ones; a thread that can't read replies; exceptions from signals' handlers;
+openings and caches that are abandoned. The script: few handles, two first runs, and when it asks rt. Ends with status 0 if all held.
 
 usage: clients.py [--program FILE] [--seed N]
 """
@@ -17,6 +18,7 @@ import array
 import asyncio
 import contextlib
 import ctypes
+import errno
 import faulthandler
 import fcntl
 import gc
@@ -26,6 +28,7 @@ import re
 import resource
 import shutil
 import signal
+import socket
 import subprocess
 import sys
 import tempfile
@@ -50,14 +53,17 @@ class Found(ctypes.Structure):
 class CCache:
     """The C client, asked as the one in Python is."""
 
-    def __init__(self, program, directory, capacity, block_size=1 << 24, **options):
+    def __init__(self, program, directory, capacity, block_size=1 << 24, *, start_seconds=None, **options):
         words = [b"%s=%s" % (str(k).encode(), str(v).encode()) for k, v in options.items()]
         settings = (ctypes.c_char_p * (len(words) + 1))(*words, None)
-        sizes = [b"%d" % it for it in (capacity, block_size)]
-        LIB.foyer_open.restype = ctypes.c_void_p
-        at = LIB.foyer_open(program.encode(), directory.encode(), *sizes, settings)
+        words = [program.encode(), directory.encode()] + [b"%d" % it for it in (capacity, block_size)] + [settings]
+        if start_seconds is None:
+            at = LIB.foyer_open(*words)
+        else:
+            at = LIB.foyer_open_within(*words, int(1000 * start_seconds))
         if not at:
-            raise CacheEnded("it isn't opened")
+            why = ctypes.get_errno()
+            raise (CacheEnded if why == errno.EPIPE else CacheError)(os.strerror(why))
         self._at = ctypes.c_void_p(at)
 
     def _code(self, name, *words):
@@ -121,20 +127,25 @@ class CCache:
         self.close()
 
 
+# What the opening of a program that isn't foyerpipe says, or of one that says nothing in time.
+NOT_FOYERPIPE = {"Python": ("isn't foyerpipe", "an older foyerpipe"), "C": (os.strerror(errno.EPROTO),)}
+NO_REPLY = {"Python": ("didn't say in time",), "C": (os.strerror(errno.ETIMEDOUT),)}
+
+
 def check(held, why):
     if not held:
         print("WRONG:", why)
         sys.exit(1)
 
 
-def own_programs():
-    """The programs that this process started and that run."""
+def own_programs(are_all=False):
+    """The programs that this process started and that run, or also those that have ended and that nobody has waited for."""
     mine = []
     for it in filter(str.isdigit, os.listdir("/proc")):
         try:
             with open("/proc/%s/stat" % it) as stat:
                 words = stat.read().rsplit(")", 1)[1].split()
-            if int(words[1]) == os.getpid() and words[0] != "Z":
+            if int(words[1]) == os.getpid() and (are_all or words[0] != "Z"):
                 mine.append(int(it))
         except (FileNotFoundError, ProcessLookupError):
             pass
@@ -168,6 +179,13 @@ def raised(call):
     return None
 
 
+def gives_up(call):
+    """Whether a call says that something was given up that had been taken."""
+    error = raised(call)
+    check(error is None or (type(error) is CacheError and error.kind == "Io"), "%r is raised" % error)
+    return error is not None
+
+
 def refused(kind, call):
     try:
         call()
@@ -184,6 +202,27 @@ def in_time(call):
     thread.join(60)
     check(given, "a call hangs")
     return given[0]
+
+
+@contextlib.contextmanager
+def standard_error(room):
+    """Takes what is printed to standard error, also by programs that are started meanwhile. The file is to be read afterwards."""
+    before = os.dup(2)
+    with open(room + "/errors", "wb") as it:
+        os.dup2(it.fileno(), 2)
+    try:
+        yield it.name
+    finally:
+        os.dup2(before, 2)
+        os.close(before)
+
+
+def script(room, text):
+    """A program of the shell."""
+    with open(room + "/script", "w") as it:
+        it.write("#!/bin/sh\n%s\n" % text)
+    os.chmod(it.name, 0o755)
+    return it.name
 
 
 @contextlib.contextmanager
@@ -228,8 +267,7 @@ def round_trips(opened, rnd, room):
         cache.destroy()
         check(all(cache.get(key) is None for key in pairs), "what was destroyed is there")
         cache.put(b"long", b"." * (1 << 25))
-        cache.wait()
-        check(cache.get(b"long") is None, "a value that no block holds is there")
+        check(gives_up(cache.wait) and cache.get(b"long") is None, "a value that no block holds is there")
 
 
 def thousands_at_once(opened, rnd, room):
@@ -278,6 +316,112 @@ def full_device(opened, rnd, room):
         check(cache.counters()["reclaims"] > 0, "nothing was reclaimed")
 
 
+@contextlib.contextmanager
+def small_disk(room, program):
+    """A directory whose disk has few bytes. Gives it, a program to open it with, and what is to be done once it is open."""
+    os.mkdir(room + "/disk")
+    mounted = os.getuid() == 0 and shutil.which("mount") and subprocess.run(["mount", "-t", "tmpfs", "-o", "size=8m", "none", room + "/disk"])
+    if mounted and mounted.returncode == 0:
+        try:
+            yield room + "/disk/cache", program, lambda: None
+        finally:
+            run(["umount", room + "/disk"])
+    else:
+        # no file may grow beyond this; the signal that a write beyond it would be ended by is ignored
+        limited = script(room, "trap '' XFSZ; exec %s \"$@\"" % program)
+        limit = 1 << 19, resource.getrlimit(resource.RLIMIT_FSIZE)[1]
+        yield room + "/disk/cache", limited, lambda: resource.prlimit(own_programs()[0], resource.RLIMIT_FSIZE, limit)
+
+
+def full_disk(opened, rnd, room):
+    with small_disk(room, opened.program) as (place, program, begin):
+        cache = opened.by(program, place, 1 << 26, 1 << 20)
+        begin()
+        # Each failed write costs a block. Few puts are made at once, so that enough blocks stay and none is reclaimed.
+        kept, last, is_full = {}, {}, False
+        while not is_full:
+            last = {b"%d" % k: rnd.randbytes(8000) for k in range(len(kept), len(kept) + 5)}
+            check(all(cache.put(*it) for it in last.items()), "a put isn't taken")
+            is_full = gives_up(cache.wait)
+            kept.update({} if is_full else last)
+            check(len(kept) < 8000, "no wait says that the disk is full")
+        check(kept and all(cache.get(key) == value for key, value in kept.items()), "what a wait confirmed is lost on a full disk")
+        check(all(cache.get(key) in (None, value) for key, value in last.items()), "a value differs on a full disk")
+        count = cache.counters()
+        check(count["abandoned_by_writes"] > 0 and count["last_write_error"] in (errno.ENOSPC, errno.EFBIG), "the counters are %r" % count)
+        check(not gives_up(cache.wait), "a wait tells twice")
+        cache.put(b"0", b"." * 8000)
+        is_lost = gives_up(cache.close) if opened.kind == "Python" else cache.close() == 1
+        with opened.by(program, place, 1 << 26, 1 << 20) as cache:
+            found = cache.get(b"0")
+            check(found == b"." * 8000 or (is_lost and found in (None, kept[b"0"])), "a close doesn't tell what is lost")
+            del kept[b"0"]
+            check(all(cache.get(key) == value for key, value in kept.items()), "what a wait confirmed is lost after a full disk")
+
+
+def given_up(opened, rnd, room):
+    lost, kept = (b"lost", b"." * (1 << 20)), (b"kept", b".")  # a block holds no value of that length
+
+    def ask():
+        return opened(":memory:", 1 << 24, 1 << 20)
+
+    with ask() as cache:
+        check(cache.put(*lost) and cache.put(*kept), "a put isn't taken")
+        check(gives_up(cache.wait) and not gives_up(cache.wait), "a wait doesn't tell what is given up, or tells it twice")
+        check(cache.get(b"lost") is None and cache.get(b"kept") == b"." and cache.counters()["returned_puts"] == 1, "the counters differ")
+    cache = ask()
+    check(cache.put(*lost), "a put isn't taken")
+    if opened.kind == "C":
+        check(cache.close() == 1, "a close doesn't tell what is given up")
+        return
+    check(gives_up(cache.close) and not gives_up(cache.close) and not own_programs(), "a close doesn't tell what is given up")
+
+    def body(error):
+        with ask() as cache:
+            cache.put(*lost)
+            raise error if error else SystemExit
+
+    async def task(error):
+        async with foyer_client.AsyncCache(opened.program, ":memory:", 1 << 24, 1 << 20) as cache:
+            await cache.put(*lost)
+            if error:
+                raise error
+            await cache.wait()
+
+    for error in (ValueError(), CacheEnded("mine"), KeyboardInterrupt()):
+        check(raised(lambda: body(error)) is error, "a body's exception is lost in a close")
+        check(raised(lambda: asyncio.run(task(error))) is error, "a task's exception is lost in a close")
+    check(gives_up(lambda: asyncio.run(task(None))) and not own_programs(), "a task's wait doesn't tell what is given up")
+
+
+def rooms_awaited(opened, rnd, room):
+    value = rnd.randbytes(100000)
+    with opened(room + "/waits", 1 << 30, flushers=2) as cache:
+        pairs = ((b"%d" % k, b"%08d" % k + value) for k in range(3000))
+        taken = cache.put_many(pairs) if opened.kind == "Python" else [cache.put(*it) for it in pairs]
+        cache.wait()
+        check(taken == [True] * 3000, "%d of 3000 puts aren't taken" % taken.count(False))
+        for k in range(0, 3000, 100):
+            check(cache.get_many([b"%d" % i for i in range(k, k + 100)]) == [b"%08d" % i + value for i in range(k, k + 100)], "a value differs")
+    # Without waiting, the same puts find too much queued, and their keys are deleted.
+    with opened(room + "/looks", 1 << 30, flushers=2, wait_ms=0) as cache:
+        taken = [cache.put(b"%d" % k, value) for k in range(3000)]
+        cache.wait()
+        found = [cache.get(b"%d" % k) for k in range(3000)]
+        check([it is not None for it in found] == taken, "a put that isn't taken is found, or one that is taken isn't")
+
+
+def deleted_at_once(opened, rnd, room):
+    with opened(room + "/deleted", 1 << 26, 1 << 20) as cache:
+        for k in range(2000):
+            key = b"%d" % rnd.randrange(100)
+            check(cache.put(key, b"%d" % k), "a put isn't taken")
+            cache.delete(key)
+            check(cache.get(key) is None, "a value is there that was queued when its key was deleted")
+        cache.wait()
+        check(all(cache.get(b"%d" % k) is None for k in range(100)), "a deleted value comes back")
+
+
 def limits(opened, rnd, room):
     with opened(room + "/writes", 1 << 24, 1 << 20, write_bytes=1000) as cache:
         taken = cache.put(b"first", b"." * 20000)
@@ -300,14 +444,14 @@ def threads_share(opened, rnd, room):
 
         def ask(name):
             own = random.Random(name)
-            for i in range(400):
+            for i in range(150):
                 key, value = b"%d %d" % (name, own.randrange(50)), own.randbytes(own.choice([10, 5000]))
                 if cache.put(key, value) and cache.get(key) != value:
                     wrong.append(key)
                 if i % 50 == 0:
                     cache.wait()
 
-        threads = [threading.Thread(target=ask, args=(name,)) for name in range(8)]
+        threads = [threading.Thread(target=ask, args=(name,)) for name in range(32)]
         for it in threads:
             it.start()
         for it in threads:
@@ -353,6 +497,23 @@ def not_inherited(opened, rnd, room):
         check(len(mine) == 4 and sorted(map(len, programs)) == [0, 2, 2], "programs have ends of pipes that aren't theirs: %r" % programs)
 
 
+def nothing_inherited(opened, rnd, room):
+    if opened.kind != "C":
+        return
+    before = signal.pthread_sigmask(signal.SIG_BLOCK, [signal.SIGTERM])
+    with socket.socket() as listening:
+        listening.listen()
+        listening.set_inheritable(True)
+        cache = opened(":memory:", 1 << 24, 1 << 20)
+    signal.pthread_sigmask(signal.SIG_SETMASK, before)
+    program = own_programs()[0]
+    files = [os.readlink("/proc/%d/fd/%s" % (program, it)) for it in os.listdir("/proc/%d/fd" % program)]
+    check(not any(it.startswith("socket:") for it in files), "the program has a socket of its caller: %r" % files)
+    os.kill(program, signal.SIGTERM)
+    in_time(lambda: await_end(program))
+    check(cache.close() == -1, "the program has its caller's blocked signals")
+
+
 def forked(opened, rnd, room):
     cache = opened(":memory:", 1 << 24, 1 << 20)
     check(cache.put(b"k", b"v"), "a put isn't taken")
@@ -386,10 +547,51 @@ def one_holder(opened, rnd, room):
     check(cache.put(b"k", b"v"), "a put into a directory isn't taken")
     check(refused(CacheEnded, lambda: opened(place, room_for, cores=2, log=1)), "a second program has the directory, too")
     check(cache.get(b"k") == b"v" and cache.close() == 0, "the directory's program doesn't go on")
-    for other in ({"log": 1}, {"cores": 4, "log": 1}, {"cores": 2}, {"block": 1 << 23, "cores": 2, "log": 1}):
+    for other in ({"log": 1}, {"cores": 4, "log": 1}, {"cores": 2, "log": 0}, {"block": 1 << 23, "cores": 2, "log": 1}):
         check(refused(CacheEnded, lambda: opened(place, room_for, **other)), "%r opens a directory that was made otherwise" % other)
-    with opened(place, room_for, cores=2, log=1, flushers=2) as cache:
-        check(cache.get(b"k") == b"v", "what was put is gone after refused openings")
+    for words in ({"log": 1, "flushers": 2}, {}):  # the log is there unless another setting says so
+        with opened(place, room_for, cores=2, **words) as cache:
+            check(cache.get(b"k") == b"v", "what was put is gone after refused openings")
+
+
+def not_opened(opened, rnd, room):
+    os.makedirs(room + "/other/cache")
+    with open(room + "/file", "w"):
+        pass
+    if os.getuid() == 0:
+        path, why, number = room + "/file/cache", "Not a directory", "20)"
+    else:
+        path, why, number = room + "/other/cache", "Permission denied", "13)"
+        os.chmod(path, 0)
+    with standard_error(room) as errors:
+        error = raised(lambda: opened(path, 1 << 24, 1 << 20))
+    with open(errors) as it:
+        said = str(error) if opened.kind == "Python" else it.read()
+    os.chmod(room + "/other/cache", 0o755)
+    check(isinstance(error, CacheEnded) and all(it in said for it in (path, why, number)), "an opening that fails says %r, %r" % (error, said))
+    check(not own_programs(), "an opening that fails leaves its program")
+
+
+def other_programs(opened, rnd, room):
+    before, children = set(pipes_of(os.getpid()).values()), set(own_programs(True))
+    older = "head -c 13 > /dev/null; printf '\\0\\0\\0\\0\\201\\0\\0\\0\\0'; exit 1"
+    much = "printf '\\1\\0\\0\\0\\0\\377\\377\\377\\377'; exec sleep 60"
+    other = "printf '\\1\\0\\0\\0\\0\\26\\0\\0\\0foyerdisk\\n'; exec sleep 60"
+    rows = [(it, 60, NOT_FOYERPIPE) for it in ("echo Welcome; exec sleep 60", "exec yes", "exec cat", older, much, other)]
+    rows += [(it, 0.3, NO_REPLY) for it in ("exec sleep 60", "sleep 60 & wait", "printf '\\1'; exec sleep 60")]
+    for text, seconds, say in rows:
+        began = time.monotonic()
+        error = in_time(lambda: raised(lambda: opened.by(script(room, text), ":memory:", 1 << 24, start_seconds=seconds)))
+        check(type(error) is CacheError and any(it in str(error) for it in say[opened.kind]), "%s: %r" % (text, error))
+        check(time.monotonic() - began < 20 and children >= set(own_programs(True)), "%s: it goes on" % text)
+    for text in ("exit 3", "exit 0", "echo Welcome >&2; exit 1"):
+        error = raised(lambda: opened.by(script(room, text), ":memory:", 1 << 24))
+        check(isinstance(error, CacheEnded) and children >= set(own_programs(True)), "%s: %r" % (text, error))
+    error = raised(lambda: opened.by(room + "/none", ":memory:", 1 << 24))
+    check(os.strerror(errno.ENOENT) in str(error), "a program that isn't there: %r" % error)
+    del error
+    gc.collect()
+    check(before >= set(pipes_of(os.getpid()).values()), "openings that fail leave pipes")
 
 
 def too_long(opened, rnd, room):
@@ -475,7 +677,6 @@ def tasks_share(opened, rnd, room):
                 return key * 2
 
             check(await cache.get_or(b"new", make) == b"newnew" == await cache.get(b"new"), "tasks: get_or differs")
-            await cache.wait()  # what isn't written yet is there until it is, also after a delete
             await cache.delete(b"new")
             check(not await cache.contains(b"new") and (await cache.counters())["deletes"] > 0, "tasks: a delete does nothing")
             os.kill(own_programs()[0], signal.SIGKILL)
@@ -485,7 +686,27 @@ def tasks_share(opened, rnd, room):
             except CacheEnded:
                 pass
 
+    async def ask_out_of_turn():
+        async def make(key):
+            return key
+
+        async def all_end():
+            calls = cache.get(b"k"), cache.put(b"k", b"v"), cache.get_or(b"k", make), cache.wait(), cache.counters()
+            return all(isinstance(it, CacheEnded) for it in await asyncio.gather(*calls, return_exceptions=True))
+
+        cache = foyer_client.AsyncCache(opened.program, ":memory:", 1 << 24, 1 << 20)
+        check(await all_end(), "tasks: a cache that isn't open answers")
+        async with cache:
+            check(await cache.put(b"k", b"v"), "tasks: a put isn't taken")
+            puts = [asyncio.ensure_future(cache.put(b"%d" % k, b"v")) for k in range(500)]
+            await asyncio.sleep(0.01)
+            check(await asyncio.gather(cache.close(), cache.close()) == [0, 0], "tasks: two closes at once differ")
+            ends = await asyncio.gather(*puts, return_exceptions=True)
+            check(all(it is True or isinstance(it, CacheEnded) for it in ends), "tasks: a put before a close gives %r" % ends)
+        check(await all_end() and await cache.close() == 0, "tasks: a closed cache answers")
+
     asyncio.run(ask())
+    asyncio.run(ask_out_of_turn())
 
 
 def killed_program(opened, rnd, room):
@@ -612,11 +833,9 @@ def abandoned(opened, rnd, room):
             check(refused(KeyboardInterrupt, ask) and own_programs() == mine, "an interrupted opening leaves its program")
         check(refused(asyncio.TimeoutError, lambda: asyncio.run(ask_and_cancel())), "a cancelled opening goes on")
         check(cache.put(b"k", b"v"), "a put isn't taken")
-    with open(room + "/building", "w") as it:
-        it.write("#!/bin/sh\nsleep 600 & echo $! > %s/job\nwait\n" % room)
-    os.chmod(it.name, 0o755)
+    building = script(room, "sleep 600 & echo $! > %s/job\nwait" % room)
     with alarm(0.3, raising(KeyboardInterrupt())):
-        check(refused(KeyboardInterrupt, lambda: foyer_client.Cache(it.name, ":memory:", 1 << 24)), "an opening isn't interrupted")
+        check(refused(KeyboardInterrupt, lambda: opened.by(building, ":memory:", 1 << 24)), "an opening isn't interrupted")
     with open(room + "/job") as it:
         in_time(lambda: await_end(int(it.read())))  # the job of an opening that was interrupted
     for value in (b"v", b"w"):
@@ -676,21 +895,22 @@ def put_on(cache):
 
 
 CASES = [
-    round_trips, thousands_at_once, reopenings, full_device, limits, threads_share, tasks_share, two_caches, small_pipes, not_inherited,
-    forked, one_holder, too_long, like_bytes, some_refused, bad_words, killed_program, ended_anew, failed_reader, interrupted, abandoned,
-    interrupted_caller, killed_caller,
+    round_trips, thousands_at_once, reopenings, full_device, full_disk, given_up, rooms_awaited, deleted_at_once, limits, threads_share,
+    tasks_share, two_caches, small_pipes, not_inherited, nothing_inherited, forked, one_holder, not_opened, too_long, like_bytes, some_refused,
+    bad_words, other_programs, killed_program, ended_anew, failed_reader, interrupted, abandoned, interrupted_caller, killed_caller,
 ]
 
 
 def opener(kind, program, library, readers):
     global LIB, LIBC
-    LIB, LIBC = ctypes.CDLL(library), ctypes.CDLL(None)
+    LIB, LIBC = ctypes.CDLL(library, use_errno=True), ctypes.CDLL(None)
+    LIB.foyer_open.restype = LIB.foyer_open_within.restype = ctypes.c_void_p
     cache = {"Python": foyer_client.Cache, "C": CCache}[kind]
 
     def opened(place, capacity, block=1 << 24, **options):
         return cache(program, place, capacity, block, readers=readers, **options)
 
-    opened.kind, opened.program, opened.library = kind, program, library
+    opened.kind, opened.program, opened.library, opened.by = kind, program, library, cache
     return opened
 
 
@@ -718,17 +938,25 @@ def run_examples(program, room):
         run([*build, "example", *sanitize], cwd=room)
         under = [] if sanitize else ["valgrind", "-q", "--leak-check=full", "--error-exitcode=9"]
         check(run([*under, "./example"], cwd=room) == "value\n", "the example in C says something else")
+    if shutil.which("c++"):  # the same, as C++
+        run(["cc", *WARNINGS, "-c", CLIENTS + "/foyer_client.c"], cwd=room)
+        run(["c++", *WARNINGS[1:], "-I" + CLIENTS, "-xc++", "example.c", "-xnone", "foyer_client.o", "-lpthread", "-oexample"], cwd=room)
+        check(run(["./example"], cwd=room) == "value\n", "the example in C says something else as C++")
     said = run([sys.executable, TOP + "/examples/read_through.py", program, room + "/through"])
     check(said.endswith("all equal\n"), "the read-through example says %r" % said)
 
 
-# In place of rt: `lib` makes a crate's library, and `run` makes the program if it isn't there and all libraries are.
+# In place of rt: `lib` makes a crate's library, and `run` makes the program if it isn't there and all libraries are. Meanwhile a file may be
+# edited.
 RT = r"""#!/usr/bin/env bash
 name=${PWD##*/}
 echo "$1 $name $$" >> "$SAID"
 case $1 in
     lib) mkdir -p out/rlib && touch out/rlib/{1..50} && exec sleep "$NAP" ;;
-    run) [ -x out/$name ] || { ls ../{a,b,c,d}/out/rlib/50 && mkdir -p out && cp "$(type -P true)" out/$name; } ;;
+    run)
+        [ -z "${EDITED:-}" ] || { sleep 0.1 && touch "$EDITED"; }
+        [ -x out/$name ] || { ls ../{a,b,c,d}/out/rlib/50 && mkdir -p out && cp "$(type -P true)" out/$name; }
+        ;;
 esac
 """
 # In place of nproc, and of awk for the memory: so that several crates are proved at the same time.
@@ -738,9 +966,11 @@ AWK = "#!/bin/sh\ncase $* in */proc/meminfo) echo 4 ;; *) exec %s \"$@\" ;; esac
 
 def make_tree(tree):
     """A tree of few crates with the scripts that run the program. Gives the environment to run them in."""
-    of = {"a": "", "b": "a", "c": "a", "d": "b", "foyerpipe": "c d"}
+    of = {"a": "", "b": "a", "c": "a", "d": "b", "foyerpipe": "c d", "other": "a"}
     texts = {"bin/rt": RT, "bin/nproc": NPROC, "bin/awk": AWK, "crates.txt": "".join("%s: %s\n" % pair for pair in of.items())}
     texts.update(("crates/%s/args" % name, ":memory:\n16384\n16384\n") for name in of)
+    texts.update(("crates/%s/src/lib.rt" % name, "") for name in of)
+    texts["crates/a/specs/A.antt"] = texts["crates/b/proofs/run/Answers.antt"] = ""
     for name, text in texts.items():
         path = "%s/%s" % (tree, name)
         os.makedirs(os.path.dirname(path), exist_ok=True)
@@ -752,12 +982,58 @@ def make_tree(tree):
     return dict(os.environ, PATH=tree + "/bin:" + os.environ["PATH"], SAID=tree + "/said", NAP="0")
 
 
+def put_program(tree, program):
+    """Puts the program where rt puts it, as one that was built just now."""
+    os.mkdir(tree + "/crates/foyerpipe/out")
+    os.symlink(program, tree + "/crates/foyerpipe/out/foyerpipe")
+
+
+def run_what_is_built(room):
+    """A program that is newer than all that it is made of is run without rt. After any change rt is asked, once."""
+    tree = room + "/built"
+    environment = make_tree(tree)
+    put_program(tree, script(room, "echo it runs"))
+    without_rt = dict(environment, PATH=room + "/tools")
+    os.mkdir(room + "/tools")
+    for it in ("bash", "sh", "env", "dirname", "awk", "find", "nproc", "touch", "date", "mkdir", "flock"):
+        if shutil.which(it):
+            os.symlink(shutil.which(it), room + "/tools/" + it)
+
+    def start(environment):
+        done = subprocess.run([tree + "/foyerpipe", ":memory:", "16384", "16384"], stdout=subprocess.PIPE, stderr=subprocess.PIPE, env=environment)
+        with contextlib.suppress(FileNotFoundError), open(environment["SAID"]) as it:
+            asked = sum(line.split()[0] == "run" for line in it)
+            os.remove(environment["SAID"])
+            return done.returncode, done.stdout, asked
+        return done.returncode, done.stdout, 0
+
+    runs, asks, fails = (0, b"it runs\n", 0), (0, b"it runs\n", 1), (1, b"", 0)
+    before = resource.getrusage(resource.RUSAGE_CHILDREN)
+    check([start(without_rt) for _ in range(10)] == [runs] * 10, "a program that is built isn't run without rt")
+    after = resource.getrusage(resource.RUSAGE_CHILDREN)
+    seconds = after.ru_utime + after.ru_stime - before.ru_utime - before.ru_stime  # of the processor, which other programs may have at the time
+    check(seconds < 2, "ten starts of a program that is built take %.1f s" % seconds)
+    files = ["crates/a/src/lib.rt", "crates/a/specs/A.antt", "crates/b/proofs/run/Answers.antt", "crates/foyerpipe/src/lib.rt", "crates.txt"]
+    for it in files:
+        os.utime(tree + "/" + it)
+        check(start(without_rt) == fails, "%s is newer, and nothing is asked" % it)
+        check([start(environment) for _ in range(2)] == [asks, runs], "%s is newer, and rt isn't asked once" % it)
+    for it, change in (("crates/d/src/new.rt", lambda it: open(it, "w").close()), ("crates/d/src/lib.rt", os.remove)):
+        change(tree + "/" + it)
+        check([start(environment) for _ in range(2)] == [asks, runs], "%s comes or goes, and rt isn't asked once" % it)
+    os.utime(tree + "/crates/other/src/lib.rt")
+    check(start(environment) == runs, "rt is asked for what the program isn't made of")
+    edited = tree + "/crates/c/src/lib.rt"
+    os.utime(edited)
+    check(start(dict(environment, EDITED=edited)) == asks, "rt isn't asked")
+    check([start(environment) for _ in range(2)] == [asks, runs], "what is edited while rt runs is taken for built")
+
+
 def run_with_few_handles(program, room):
     """The script takes as many handles as it may: 60 blocks take 180."""
     tree = room + "/tree"
     environment = make_tree(tree)
-    os.mkdir(tree + "/crates/foyerpipe/out")
-    os.symlink(program, tree + "/crates/foyerpipe/out/foyerpipe")
+    put_program(tree, program)
     before, (soft, hard) = dict(os.environ), resource.getrlimit(resource.RLIMIT_NOFILE)
     resource.setrlimit(resource.RLIMIT_NOFILE, (100, hard))
     os.environ.update(environment)
@@ -819,12 +1095,14 @@ def main():
                 place = "%s/%s-%s-%d" % (room, kind, case.__name__, readers)
                 os.mkdir(place)
                 case(opened, random.Random(args.seed), place)
+                shutil.rmtree(place)
                 print("%s, readers=%d: %s" % (kind, readers, case.__name__.replace("_", " ")), flush=True)
         run_examples(program, room)
         print("the examples: all held")
         run_with_few_handles(program, room)
         run_first_builds(room)
-        print("the script: few handles, first runs")
+        run_what_is_built(room)
+        print("the script: few handles, first runs, runs of what is built")
     finally:
         shutil.rmtree(room, ignore_errors=True)
 

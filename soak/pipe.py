@@ -3,9 +3,10 @@
 
 Half of the programs have threads that answer gets, and half have a cache of two or four cores. Checked: each request is answered once, and
 all but gets in their order; a reply has a code of its request's kind; a get is a miss, or a value of its own key that is no older than what
-was put before the last wait; what a wait followed and a delete took stays away while the program runs; a broken frame is answered by its
-code and ends the program with status 1; a killed program's directory opens again, and gives whole values of the key that was asked for;
-a program whose caller was killed ends by itself; the program's memory stays below a bound. Ends with status 0 when all held.
+was put before the last wait; what a delete took is gone at once, and stays away while the program runs; the program says which one it is,
+before it opens a directory and later; a broken frame is answered by its code and ends the program with status 1; a killed program's directory
+opens again, and gives whole values of the key that was asked for; a program whose caller was killed ends by itself; the program's memory stays
+below a bound. Ends with status 0 when all held.
 
 usage: pipe.py [--frames N] [--kills N] [--seed N] [--program FILE]
 """
@@ -22,11 +23,12 @@ import time
 
 TOP = os.path.dirname(os.path.dirname(os.path.abspath(__file__)))
 sys.path.insert(0, TOP + "/clients")
-from foyer_client import DELETED, DONE, ENTRY, ERRORS, FAULTS, MISS, NO, REPLY, REQUEST, YES, Cache, CacheEnded  # noqa: E402
+from foyer_client import DELETED, DONE, ENTRY, FRAMES, GREETING, MISS, NAME, NO, REPLY, REQUEST, YES  # noqa: E402
 
 KEYS = 300
 SIZES = ["33554432", "1048576"]
 MOST_BYTES = 300 << 20
+GREETED = GREETING.pack(NAME, FRAMES, 65536, 67108864)
 
 
 def fail(why):
@@ -94,7 +96,7 @@ class Program:
 
 
 BROKEN = [
-    lambda rnd: (REQUEST.pack(bytes([rnd.choice([x for x in range(256) if chr(x) not in "pgdhwcxq"])]), 9, 0, 0), 129),
+    lambda rnd: (REQUEST.pack(bytes([rnd.choice([x for x in range(256) if chr(x) not in "pgdhwcxqv"])]), 9, 0, 0), 129),
     lambda rnd: (REQUEST.pack(b"g", 9, 65537 + rnd.randrange(1 << 20), 0), 130),
     lambda rnd: (REQUEST.pack(b"p", 9, 1, (1 << 26) + 1), 131),
     lambda rnd: (REQUEST.pack(b"w", 9, 1, 0), 132),
@@ -107,29 +109,27 @@ BROKEN = [
 def run_frames(args, rnd, directory):
     """One program, asked until a broken frame ends it: how many frames."""
     program = Program(args.program, directory, rnd.choice([0, 0, 1, 3]), rnd.choice([1, 1, 2, 4]))
-    newest, floor, deleted = {}, {}, set()
+    newest, floor = {}, {}
     asked = 0
     for _ in range(args.run):
         batch = []
         for _ in range(rnd.randrange(1, 40)):
             key = rnd.randrange(KEYS)
             word = b"%d" % key
-            kind = rnd.choice(b"ppppggggggdhhc") if rnd.randrange(60) else rnd.choice(b"wwwx")
+            kind = rnd.choice(b"ppppggggggdhhcv") if rnd.randrange(60) else rnd.choice(b"wwwx")
             if kind == ord("p"):
                 newest[key] = newest.get(key, 0) + 1
                 batch.append((program.send(b"p", word, value_of(key, newest[key], rnd)), kind, key, newest[key]))
             elif kind in b"gdh":
-                batch.append((program.send(bytes([kind]), word), kind, key, None))
+                batch.append((program.send(bytes([kind]), word), kind, key, newest.get(key, 0)))
             else:
                 batch.append((program.send(bytes([kind])), kind, None, None))
         for (_, kind, key, count), (_, code, found) in zip(batch, program.take_each(batch)):
             asked += 1
             if kind == ord("p"):
                 if code == DELETED:
-                    deleted.add(key)
-                elif code == DONE:
-                    deleted.discard(key)
-                else:
+                    floor[key] = count + 1
+                elif code != DONE:
                     fail("a put was answered %d" % code)
             elif kind == ord("g"):
                 if code == ENTRY:
@@ -139,14 +139,14 @@ def run_frames(args, rnd, directory):
                 elif code != MISS:
                     fail("a get was answered %d" % code)
             elif kind == ord("d"):
-                deleted.add(key)
+                floor[key] = count + 1
                 if code != DONE:
                     fail("a delete was answered %d" % code)
             elif kind == ord("h"):
                 if code not in (YES, NO):
                     fail("a question was answered %d" % code)
-            elif code != DONE:
-                fail("%c was answered %d" % (kind, code))
+            elif code != DONE or (kind == ord("v") and not found.startswith(GREETED)):
+                fail("%c was answered %d with %r" % (kind, code, found[:40]))
         # what was put before a wait of its own is as old as a get may be from then on
         if not rnd.randrange(5):
             number = program.send(b"w")
@@ -154,7 +154,7 @@ def run_frames(args, rnd, directory):
                 fail("a wait wasn't done")
             asked += 1
             for key in newest:
-                floor[key] = newest[key] + (1 if key in deleted else 0)
+                floor[key] = max(floor.get(key, 0), newest[key])
     if program.memory() > MOST_BYTES:
         fail("%d bytes of memory" % program.memory())
     if rnd.randrange(10) == 0:
@@ -168,6 +168,19 @@ def run_frames(args, rnd, directory):
     if program.end() != 1:
         fail("a broken frame had no status")
     return asked + 1
+
+
+def check_greeting(args, room):
+    """A program that can't open its directory says which one it is all the same, and then why it ends."""
+    with open(room + "/file", "w"):
+        pass
+    program = Program(args.program, room + "/file/below")
+    number = program.send(b"v")
+    came = program.take()
+    if came is None or came[:2] != (number, DONE) or not came[2].startswith(GREETED) or len(came[2]) == len(GREETED):
+        fail("a first v was answered %r" % (came,))
+    if program.end() != 1:
+        fail("a directory that can't be opened has no status")
 
 
 def check_open(args, directory, cores):
@@ -242,6 +255,7 @@ def main():
     rnd = random.Random(args.seed)
     room = tempfile.mkdtemp(prefix="foyerpipe")
     try:
+        check_greeting(args, room)
         asked = runs = 0
         while asked < args.frames:
             asked += run_frames(args, rnd, room + "/frames" if rnd.randrange(2) else ":memory:")

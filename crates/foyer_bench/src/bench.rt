@@ -1,6 +1,6 @@
 //! The whole program: a store is opened, filled, and called by threads.
 ghost use Rattle.std.specs.Prelude.{◌≡◌, ◌⊎◌, ◌^◌};
-ghost use Rattle.foyer_cli.specs.Arguments.{AskVersion};
+ghost use Rattle.foyer_cli.specs.Arguments.{AskHelp, AskVersion};
 ghost use Rattle.foyer_bench_stats.specs.declared.plan.Plan.{Plan};
 ghost use Rattle.foyer_bench_stats.specs.BenchPlans.{HasBounds};
 ghost use Rattle.foyer_storage_cores_run.specs.CoreLedgers.{AreOfCores};
@@ -13,6 +13,7 @@ use crate::words::read_words;
 use foyer_bench_stats::plan::Plan;
 use foyer_bench_stats::settings::Refusal;
 use foyer_cli::options::{Options, ask_version, print_version};
+use foyer_cli::words::{ask_help, print_help, sizes_of};
 use foyer_core_tally::book::Kinds;
 use foyer_device_page::error::Result;
 use foyer_directory::lock::{DirectoryLock, PROGRAM_TRIES};
@@ -30,11 +31,46 @@ use std::thread::Threads;
 pub const USAGE: &str =
     "usage: foyerbench DIR CAPACITY BLOCK THREADS VALUE_BYTES SECONDS [NAME=VALUE..]\n";
 
-// Says why words are refused.
-fn refuse<E: Write>(errors: &mut E, refusal: Option<Refusal>) -> io::Result<()> {
-    if let Some(refusal) = refusal {
-        errors.write_all(refusal.wanted().as_bytes())?;
-        errors.write_all(b"\n")?;
+/// Printed after the usage by `--help`.
+pub const SETTINGS: &str = "\
+DIR is a directory, or :memory:. CAPACITY and BLOCK are bytes. THREADS is from 1 to 1024, SECONDS from 1 to 2^30.
+  calls=N                         so many calls in place of SECONDS
+  keys=N skew=N gets=N            the keys, how unevenly they are drawn, and how many of 100 calls are gets
+  seed=N fill=N                   what draws begin with, and how many pairs are put first
+  flushers=N engines=N recoverers=N cores=N
+  patience=N through=0 or 1       puts that find too much queued look again; gets that miss put
+  reinsert=0 or 1                 what was asked for is written again when its block is reclaimed
+";
+
+// The first word that is bad, if a word of the plan is. The words up to it are refused, and those before it aren't.
+fn bad_word<B: Allocator>(words: &[String<B>]) -> &str {
+    for end in 6..=words.len() {
+        if Plan::parse(&words[3..end]).is_err() {
+            return words[end - 1].as_str();
+        }
+    }
+    ""
+}
+
+// Says why words are refused, and which of them is bad.
+fn refuse<B: Allocator, E: Write>(
+    errors: &mut E,
+    words: &[String<B>],
+    refusal: Option<Refusal>,
+) -> io::Result<()> {
+    match refusal {
+        Some(refusal) => {
+            errors.write_all(b"foyerbench: ")?;
+            errors.write_all(refusal.wanted().as_bytes())?;
+            errors.write_all(b": ")?;
+            errors.write_all(bad_word(words).as_bytes())?;
+            errors.write_all(b"\n")?;
+        }
+        None => {
+            if let Err(bad) = sizes_of(words) {
+                bad.print(errors, "foyerbench")?;
+            }
+        }
     }
     errors.write_all(USAGE.as_bytes())
 }
@@ -121,7 +157,7 @@ where
             run::<L, T, W, E>(rt, alloc, blanks, &options, &plan, output, errors)
         }
         Err(refusal) => {
-            let _ = refuse(&mut errors, refusal);
+            let _ = refuse(&mut errors, words, refusal);
             2
         }
     }
@@ -146,11 +182,15 @@ where
     W: Write + Drop,
     E: Write + Drop,
     requires { AreOfCores L.name_of L.all blanks × (L.all ≡ 2 ^ 32) }
-    ensures usage { ¬ AskVersion words.now → ((o : Options) (p : Plan) → ¬ AreBenchWords words.now o p) → result ≡ 2 }
+    ensures usage { ¬ AskVersion words.now → ¬ AskHelp words.now → ((o : Options) (p : Plan) → ¬ AreBenchWords words.now o p) → result ≡ 2 }
     ensures version { AskVersion words.now → (result ≡ 0) ⊎ (result ≡ 1) }
+    ensures help { AskHelp words.now → (result ≡ 0) ⊎ (result ≡ 1) }
 {
     if ask_version(words) {
         return print_version(output, "foyerbench");
+    }
+    if ask_help(words) {
+        return print_help(output, USAGE, SETTINGS);
     }
     bench_words::<L, T, B, W, E>(rt, alloc, blanks, words, output, errors)
 }

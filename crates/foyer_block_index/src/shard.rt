@@ -164,7 +164,11 @@ impl<A: Allocator> Shard<A> {
         ensures same { self.new.entries ≡ self.old.entries }
         ensures refused { IsOkUnless result Error.Memory }
     {
-        Ok(self.entries.reserve(count)?)
+        let len = self.entries.len();
+        if self.entries.capacity() - len >= count {
+            return Ok(());
+        }
+        Ok(self.entries.reserve_exact(count.max(len / 32 + 4))?)
     }
 
     /// Makes vacant places for ascending hashes that have none. There must be room for them.

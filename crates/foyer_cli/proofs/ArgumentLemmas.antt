@@ -3,7 +3,7 @@ use Rattle.std.proofs.lemmas.Bool.Decides.{nat_tests}
 use Rattle.std.specs.Prelude.{Result, IsOk, IsErr}
 use Rattle.std.proofs.lemmas.Bool.{false≢true}
 use Rattle.std.specs.Int.{div_ceil}
-use Rattle.std.proofs.Common.{◌≡◌, ℕ, ◌*◌, ◌%◌, ◌^◌, ◌<◌, ◌≤◌, nat_lt, Bool, true, false, List, [], ◌∷◌, slice_index_or, Ok, Err, refl, arith}
+use Rattle.std.proofs.Common.{◌≡◌, ℕ, ◌*◌, ◌%◌, ◌^◌, ◌<◌, ◌≤◌, nat_lt, Bool, true, false, List, [], ◌∷◌, length, slice_index_or, take, Ok, Err, refl, arith}
 use Rattle.std.specs.Prelude.{string_bytes}
 use Rattle.std.specs.declared.string.String.{String}
 use Rattle.foyer_format_layout.specs.Page.{page_up}
@@ -21,6 +21,13 @@ module _ {A : Type 0} where
   first_number (a ∷ (b ∷ [])) o d are = absurd are
   first_number (a ∷ (b ∷ (c ∷ []))) o d are = are.1
   first_number (a ∷ (b ∷ (c ∷ (e ∷ es)))) o d are = absurd are
+
+  -- words that are fewer than three are none
+  pub too_few : (words : List (String A)) (o : Options) → length words < 3 → AreWords (take 3 words) o → ⊥
+  too_few [] o few are = are
+  too_few (a ∷ []) o few are = are
+  too_few (a ∷ (b ∷ [])) o few are = are
+  too_few (a ∷ (b ∷ (c ∷ ws))) o few are = omega arith
 
   pub second_number : (words : List (String A)) (o : Options) (d : String A) → AreWords words o → IsNumber (string_bytes (slice_index_or words 2 d)) o.block_size
   second_number [] o d are = absurd are

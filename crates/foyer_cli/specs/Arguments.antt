@@ -1,11 +1,12 @@
 -- The program's arguments.
-use Rattle.std.specs.Prelude.{◌≡◌, ℕ, ◌/◌, ◌^◌, ◌<◌, ◌≤◌, List, [], ◌∷◌, false, string_bytes, codes}
+use Rattle.std.specs.Prelude.{◌≡◌, ℕ, ◌/◌, ◌^◌, ◌<◌, ◌≤◌, List, [], ◌∷◌, ◌++◌, false, string_bytes, codes}
 use Rattle.std.specs.declared.string.String.{String}
 use Rattle.foyer_format_layout.specs.Page.{page_up}
 use Rattle.foyer_core_settings.specs.Sizes.{IsDefaultShardCount}
 use Rattle.foyer_core_settings.specs.declared.settings.Settings.{Settings}
 use Rattle.foyer_cli.specs.Lines.{IsNumber}
 use Rattle.foyer_cli.specs.declared.options.Options.{Options}
+use Rattle.foyer_cli.specs.declared.words.BadWord.{BadWord}
 
 -- three words are these: the directory as it stands, and two numbers
 abbrev pub AreWords : {A : Type 0} → List (String A) → Options → Type 0
@@ -21,6 +22,16 @@ abbrev pub AskVersion : {A : Type 0} → List (String A) → Type 0
 AskVersion [] = ⊥
 AskVersion (w ∷ []) = string_bytes w ≡ codes "--version"
 AskVersion (w ∷ (x ∷ ws)) = ⊥
+
+-- one word, which asks for help
+abbrev pub AskHelp : {A : Type 0} → List (String A) → Type 0
+AskHelp [] = ⊥
+AskHelp (w ∷ []) = string_bytes w ≡ codes "--help"
+AskHelp (w ∷ (x ∷ ws)) = ⊥
+
+-- the line that names a bad word of a program
+abbrev pub bad_text : List ℕ → BadWord → List ℕ
+bad_text program bad = program ++ (codes ": " ++ ((bad.what).now ++ ((bad.word).now ++ codes "\n")))
 
 -- how many blocks a device of so many bytes holds, the size of a block rounded up to whole pages
 abbrev pub blocks_held : Options → ℕ

@@ -5,3 +5,4 @@ pub mod command;
 pub mod faults;
 pub mod lines;
 pub mod options;
+pub mod words;

@@ -1,6 +1,5 @@
 //! The accesses of a core's tickets and writes, done at a disk.
 ghost use Rattle.std.specs.Prelude.{◌≡◌, length, vec_len, IsOk, IfOk, IfErr, OnOk, OnErr, ℕ, ◌≤◌};
-ghost use Rattle.foyer_format_layout.specs.Page.{page_up};
 ghost use Rattle.foyer_core_steps.specs.Issuing.{written_bytes};
 ghost use Rattle.foyer_io_disk.specs.Disk.{IsRead, IsWritten, IsTorn, SurelyCame};
 
@@ -23,13 +22,13 @@ pub fn do_read<A: Allocator, D: Disk>(
     ensures read { D.is_known disk.old → IfOk result (λ outcome. IfOk outcome (λ bytes.
         IsRead (D.byte_at disk.old) ticket.now.address.block ticket.now.address.offset bytes.items)) }
     ensures len { IfOk result (λ outcome. IfOk outcome (λ bytes.
-        vec_len bytes ≡ page_up ticket.now.address.len)) }
-    ensures succeeds { D.surely_has disk.old ticket.now.address.block ticket.now.address.offset (page_up ticket.now.address.len)
+        vec_len bytes ≡ ticket.now.address.len)) }
+    ensures succeeds { D.surely_has disk.old ticket.now.address.block ticket.now.address.offset ticket.now.address.len
         → IfOk result IsOk }
     ensures fails { IfOk result (λ outcome. OnErr outcome (SurelyCame (D.surely_has disk.old) (D.surely_lies disk.old) (D.faults disk.old) (D.faults disk.new)
-        ticket.now.address.block ticket.now.address.offset (page_up ticket.now.address.len) → ⊥)) }
-    ensures within { IfOk result (λ outcome. OnOk outcome (D.may_have disk.old ticket.now.address.block ticket.now.address.offset (page_up ticket.now.address.len))) }
-    ensures fault { IfOk result (λ outcome. IfErr outcome (D.may_answer disk.old ticket.now.address.block ticket.now.address.offset (page_up ticket.now.address.len))) }
+        ticket.now.address.block ticket.now.address.offset ticket.now.address.len → ⊥)) }
+    ensures within { IfOk result (λ outcome. OnOk outcome (D.may_have disk.old ticket.now.address.block ticket.now.address.offset ticket.now.address.len)) }
+    ensures fault { IfOk result (λ outcome. IfErr outcome (D.may_answer disk.old ticket.now.address.block ticket.now.address.offset ticket.now.address.len)) }
     ensures known { D.is_known disk.old → D.is_known disk.new }
     ensures has { (b o n : ℕ) → D.surely_has disk.old b o n → D.surely_has disk.new b o n }
     ensures lies { (b o n : ℕ) → D.surely_lies disk.old b o n → D.surely_lies disk.new b o n }

@@ -120,7 +120,7 @@ module _ {C : Type 0} (rules : Rules C) where
 
   -- a read ends
 
-  judged_bytes : (g : Ground) (a : Address) (seen : ℕ → Bool) (bs : List ℕ) → length bs ≡ rules.page_up a.len
+  judged_bytes : (g : Ground) (a : Address) (seen : ℕ → Bool) (bs : List ℕ) → length bs ≡ a.len
       → ((i : ℕ) → i < length bs → seen (a.offset + i) ≡ false → slice_index bs i ≡ g.bytes a.block (a.offset + i))
       → ((o : ℕ) → InPages rules a o → seen o ≡ false)
       → take a.len bs ≡ read (g.bytes a.block) a.offset a.len
@@ -129,7 +129,7 @@ module _ {C : Type 0} (rules : Rules C) where
       take_read bs (g.bytes a.block) a.offset a.len (omega arith)
       (λ i lt. given i lt (clear (a.offset + i) (omega arith, omega arith)))
 
-  pub read_state_came : (g : Ground) (a : Address) (read_state : ReadState) (result : ReadResult) → IsRead (g.bytes a.block) a.offset (rules.page_up a.len) read_state result
+  pub read_state_came : (g : Ground) (a : Address) (read_state : ReadState) (result : ReadResult) → IsRead (g.bytes a.block) a.offset a.len read_state result
       → ReadStateHolds rules g a read_state → ReadStateHolds rules g a (came result read_state)
   read_state_came g a ReadIssued result read_is ok = ok
   read_state_came g a (ReadDone r) result read_is ok = ok

@@ -38,7 +38,7 @@ abbrev pub HasReadAll : {C : Type 0} → Rules C → ℕ → ReadState → Type 
 HasReadAll rules len ReadIssued = Unit {0}
 HasReadAll rules len (Reading seen) = Unit {0}
 HasReadAll rules len (ReadDone Fault) = Unit {0}
-HasReadAll rules len (ReadDone (Bytes bs)) = length bs ≡ rules.page_up len
+HasReadAll rules len (ReadDone (Bytes bs)) = length bs ≡ len
 
 -- of a load: its block is there, what was read has the length that was issued, and while its block is kept it is in use
 -- and, unless the record is broken, still in the ticket's filling
@@ -320,7 +320,7 @@ module _ {C : Type 0} (rules : Rules C) (Splits : Splitting C) (is_value : C →
   torn_all cover b len (ReadDone Fault) ok = ok
   torn_all cover b len (ReadDone (Bytes bs)) ok = ok
 
-  came_all : (bytes : ℕ → ℕ) (offset len : ℕ) (result : ReadResult) (p : ReadState) → IsRead bytes offset (rules.page_up len) p result → HasReadAll rules len p → HasReadAll rules len (came result p)
+  came_all : (bytes : ℕ → ℕ) (offset len : ℕ) (result : ReadResult) (p : ReadState) → IsRead bytes offset len p result → HasReadAll rules len p → HasReadAll rules len (came result p)
   came_all bytes offset len result ReadIssued is ok = tt
   came_all bytes offset len Fault (Reading seen) is ok = tt
   came_all bytes offset len (Bytes bs) (Reading seen) is ok = is.0

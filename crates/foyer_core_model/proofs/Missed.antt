@@ -96,7 +96,7 @@ module _ {C : Type 0} (rules : Rules C) (Splits : Splitting C) (is_value : C →
       bytes_answer w.core new t bs x reply
       (subst (λ u. judged rules w.core u bs ≡ x) ticket (judged_here w l bs b s x promised held read_state kept (subst (λ u. l.promise ≡ Some (Put u.hash s x)) (sym ticket) promise))) few (
         subst (λ u. u.address.block < rules.blocks) ticket held.below,
-        subst (λ u. length bs ≡ rules.page_up u.address.len) ticket (subst (λ p. HasReadAll rules l.ticket.address.len p) read_state held.all),
+        subst (λ u. length bs ≡ u.address.len) ticket (subst (λ p. HasReadAll rules l.ticket.address.len p) read_state held.all),
       ) ok
 
 pub loads_newest_lem : {C : Type 0} (rules : Rules C) (Splits : Splitting C) (is_value : C → Type 0) → LoadsNewest rules Splits is_value

@@ -135,7 +135,7 @@ module _ {C : Type 0} (rules : Rules C) where
       (scans_after {C = C} rules.index_size (issued_at rules w.core b (stage_after rules w.core ps place) vs) (ReclaimRead b came) w.scans b)
   stage_issued w b came vs [] place ok = no_record w.core.index (still_of rules w) b place (nat_le (place + rules.index_size) rules.block_size) _
   stage_issued w b came vs (p ∷ ps) place ok =
-      ((ok.0).0, (ok.0).1, ok.1, subst (ScanOk rules w.core.index (still_of rules w) p.0 p.1) (sym (put_same w.scans b (Some (record { offset = (p.1).offset; len = rules.page_up (p.1).len; read_state = ReadIssued })))) (refl, refl, λ _. tt))
+      ((ok.0).0, (ok.0).1, ok.1, subst (ScanOk rules w.core.index (still_of rules w) p.0 p.1) (sym (put_same w.scans b (Some (record { offset = (p.1).offset; len = (p.1).len; read_state = ReadIssued })))) (refl, refl, λ _. tt))
 
   pub others_issued : (w : World C) (b : ℕ) (came : ReadResult) (vs : List Bool) (stage : Stage) (c : ℕ) → (c ≡ b → ⊥)
       → scans_after {C = C} rules.index_size (issued_at rules w.core b stage vs) (ReclaimRead b came) w.scans c ≡ w.scans c

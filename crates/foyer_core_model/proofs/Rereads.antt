@@ -24,7 +24,7 @@ AllHere b n ps = Each (λ p. ((p.1).block ≡ b) × ((p.1).filling ≡ n)) ps
 -- a read of a record gives its bytes, as long as the index holds the address
 abbrev pub ScanOk : {C : Type 0} → Rules C → (ℕ → Option Slot) → Ground → ℕ → Address → Option Scan → Type 0
 ScanOk rules m g h a None = Unit {0}
-ScanOk rules m g h a (Some s) = (s.offset ≡ a.offset) × (s.len ≡ rules.page_up a.len) × (m h ≡ Some (Indexed a) → ReadStateHolds rules g a s.read_state)
+ScanOk rules m g h a (Some s) = (s.offset ≡ a.offset) × (s.len ≡ a.len) × (m h ≡ Some (Indexed a) → ReadStateHolds rules g a s.read_state)
 
 abbrev pub StageOk : {C : Type 0} → Rules C → (ℕ → Option Slot) → Ground → ℕ → Stage → Option Scan → Type 0
 StageOk rules m g b (AtIndex place) scan = Unit {0}
@@ -236,7 +236,7 @@ module _ {C : Type 0} (rules : Rules C) where
   -- each record that is read keeps its fact if its address is solid
   scan_maps : (w : World C) (g : Ground) (b h : ℕ) (a : Address) (f : ℕ → ReadState → ReadState) (scan : Option Scan) → a.block ≡ b → a.filling ≡ w.core.filling b
       → WorldInvariant rules w
-      → ((s : Scan) (x : Outcome C) → scan ≡ Some s → s.offset ≡ a.offset → s.len ≡ rules.page_up a.len → IsSolid rules (ground_of w) w.block_writes h a x → ReadStateHolds rules (ground_of w) a s.read_state → ReadStateHolds rules g a (f b s.read_state))
+      → ((s : Scan) (x : Outcome C) → scan ≡ Some s → s.offset ≡ a.offset → s.len ≡ a.len → IsSolid rules (ground_of w) w.block_writes h a x → ReadStateHolds rules (ground_of w) a s.read_state → ReadStateHolds rules g a (f b s.read_state))
       → ScanOk rules w.core.index (still_of rules w) h a scan → ScanOk rules w.core.index g h a (at_scan f b scan)
   scan_maps w g b h a f None is fill sound change ok = tt
   scan_maps w g b h a f (Some s) is fill sound change ok = (
@@ -248,7 +248,7 @@ module _ {C : Type 0} (rules : Rules C) where
   )
 
   stage_maps : (w : World C) (bytes : ℕ → ℕ → ℕ) (b : ℕ) (f : ℕ → ReadState → ReadState) (stage : Stage) (scan : Option Scan) → WorldInvariant rules w
-      → ((h : ℕ) (a : Address) (s : Scan) (x : Outcome C) → a.block ≡ b → scan ≡ Some s → s.offset ≡ a.offset → s.len ≡ rules.page_up a.len → IsSolid rules (ground_of w) w.block_writes h a x → ReadStateHolds rules (ground_of w) a s.read_state
+      → ((h : ℕ) (a : Address) (s : Scan) (x : Outcome C) → a.block ≡ b → scan ≡ Some s → s.offset ≡ a.offset → s.len ≡ a.len → IsSolid rules (ground_of w) w.block_writes h a x → ReadStateHolds rules (ground_of w) a s.read_state
       → ReadStateHolds rules (record (still_of rules w) { bytes = bytes }) a (f b s.read_state))
       → StageOk rules w.core.index (still_of rules w) b stage scan → StageOk rules w.core.index (record (still_of rules w) { bytes = bytes }) b stage (at_scan f b scan)
   stage_maps w bytes b f (AtIndex place) scan sound change ok = tt
@@ -258,7 +258,7 @@ module _ {C : Type 0} (rules : Rules C) where
       (ok.0, ok.1, ok.2, scan_maps w (record (still_of rules w) { bytes = bytes }) b h a f scan ok.0 ok.1 sound (λ s x. change h a s x ok.0) ok.3)
 
   pub reclaim_maps : (w : World C) (bytes : ℕ → ℕ → ℕ) (b : ℕ) (f : ℕ → ReadState → ReadState) (r : Option Reclaim) → WorldInvariant rules w
-      → ((h : ℕ) (a : Address) (s : Scan) (x : Outcome C) → a.block ≡ b → w.scans b ≡ Some s → s.offset ≡ a.offset → s.len ≡ rules.page_up a.len → IsSolid rules (ground_of w) w.block_writes h a x → ReadStateHolds rules (ground_of w) a s.read_state
+      → ((h : ℕ) (a : Address) (s : Scan) (x : Outcome C) → a.block ≡ b → w.scans b ≡ Some s → s.offset ≡ a.offset → s.len ≡ a.len → IsSolid rules (ground_of w) w.block_writes h a x → ReadStateHolds rules (ground_of w) a s.read_state
       → ReadStateHolds rules (record (still_of rules w) { bytes = bytes }) a (f b s.read_state))
       → ReclaimOk rules w.core.index (still_of rules w) w.core.place b r (w.scans b) → ReclaimOk rules w.core.index (record (still_of rules w) { bytes = bytes }) w.core.place b r (at_scan f b (w.scans b))
   reclaim_maps w bytes b f None sound change ok = tt

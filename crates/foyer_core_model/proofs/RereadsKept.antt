@@ -51,8 +51,8 @@ module _ {C : Type 0} (rules : Rules C) where
             (reclaim_maps rules w w.bytes b (λ _. came result) (w.core.reclaims b) sound
             (λ h a s x is scanned at many solid ok.
             read_state_came rules (ground_of w) a s.read_state result
-            (subst (λ k. IsRead (w.bytes k) a.offset (rules.page_up a.len) s.read_state result) (sym is)
-            (subst (λ o. IsRead (w.bytes b) o (rules.page_up a.len) s.read_state result) at
+            (subst (λ k. IsRead (w.bytes k) a.offset a.len s.read_state result) (sym is)
+            (subst (λ o. IsRead (w.bytes b) o a.len s.read_state result) at
             (subst (λ n. IsRead (w.bytes b) s.offset n s.read_state result) many (subst (λ o. IsScanned (w.bytes b) o result) scanned read_is)))) ok) (again.stages b))
             (λ c _. again.stages c);
       }

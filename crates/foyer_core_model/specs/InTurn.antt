@@ -36,7 +36,7 @@ module _ {C : Type 0} (rules : Rules C) where
   IsScan (AtIndex place) Fault = Unit {0}
   IsScan (AtIndex place) (Bytes bs) = length bs ≡ rules.index_size
   IsScan (AtRecord h a rest place) Fault = Unit {0}
-  IsScan (AtRecord h a rest place) (Bytes bs) = length bs ≡ rules.page_up a.len
+  IsScan (AtRecord h a rest place) (Bytes bs) = length bs ≡ a.len
   IsScan AllListed came = ⊥
   IsScan ToClean came = ⊥
 

@@ -49,10 +49,10 @@ module _ {C : Type 0} (rules : Rules C) (old : State C) where
   Ends t Fault reply new = ⊥
   Ends t (Bytes bs) reply new = Judges t (judged t bs) reply new
 
-  -- bytes are as many as were asked for, whole pages
+  -- bytes are as many as were asked for, the record's
   abbrev pub HasLength : Ticket → ReadResult → Type 0
   HasLength t Fault = Unit {0}
-  HasLength t (Bytes bs) = length bs ≡ rules.page_up t.address.len
+  HasLength t (Bytes bs) = length bs ≡ t.address.len
 
   -- a key or a value is decoded, which takes memory
   abbrev pub IsDecoded : Outcome C → Type 0

@@ -102,7 +102,7 @@ module _ {C : Type 0} (rules : Rules C) (old : State C) where
   -- the read that it issues
   abbrev pub issued_at : ℕ → Stage → List Bool → Reply C
   issued_at b (AtIndex place) verdicts = Scans b place rules.index_size verdicts
-  issued_at b (AtRecord h a rest place) verdicts = Scans b a.offset (rules.page_up a.len) verdicts
+  issued_at b (AtRecord h a rest place) verdicts = Scans b a.offset a.len verdicts
   issued_at b AllListed verdicts = Listed verdicts
   issued_at b ToClean verdicts = Listed verdicts
 

@@ -149,7 +149,7 @@ module _ {C : Type 0} (rules : Rules C) where
 abbrev pub IsReadAt : {C : Type 0} → Rules C → (ℕ → ℕ → ℕ) → Option (Load C) → ReadResult → Type 0
 IsReadAt rules bytes None result = Unit {0}
 IsReadAt rules bytes (Some l) result =
-    IsRead (bytes l.ticket.address.block) l.ticket.address.offset (rules.page_up l.ticket.address.len) l.read_state result
+    IsRead (bytes l.ticket.address.block) l.ticket.address.offset l.ticket.address.len l.read_state result
 
 -- the same of a reclaim
 abbrev pub IsScanned : (ℕ → ℕ) → Option Scan → ReadResult → Type 0

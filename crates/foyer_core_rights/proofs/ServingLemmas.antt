@@ -26,7 +26,7 @@ module _ {C : Type 0} (rules : Rules C) (Splits : Splitting C) (is_value : C →
 
   -- a read, from its beginning to its end
   read_through : (w : World C) (n : ℕ) (t : Ticket) (promised : Option (Event C)) (result : ReadResult) → HasLoad w n t promised ReadIssued
-      → IsRead (w.bytes t.address.block) t.address.offset (rules.page_up t.address.len) (Reading (covers rules w t.address.block)) result
+      → IsRead (w.bytes t.address.block) t.address.offset t.address.len (Reading (covers rules w t.address.block)) result
       → MayAllHappen rules Splits is_value w (events_in (ReadsAt n result)) × HasLoad (after_deed rules w (ReadsAt n result)) n t promised (ReadDone result)
   read_through w n t promised result h is =
       let l : Load C = h.load in
@@ -35,7 +35,7 @@ module _ {C : Type 0} (rules : Rules C) (Splits : Splitting C) (is_value : C →
       let begins : (after rules w (ReadBegins n)).loads n ≡ Some (record l { read_state = begun (covers rules w) l.ticket.address.block l.read_state }) =
       put_same w.loads n _ ∙ ap (at_load (begun (covers rules w))) h.at in
       let gives : IsReadAt rules w.bytes (Some (record l { read_state = begun (covers rules w) l.ticket.address.block l.read_state })) result =
-      subst (λ (x : Ticket × ReadState). IsRead (w.bytes x.0.address.block) x.0.address.offset (rules.page_up x.0.address.len) x.1 result) (λ i. (sym h.ticket i, sym state i)) is in (
+      subst (λ (x : Ticket × ReadState). IsRead (w.bytes x.0.address.block) x.0.address.offset x.0.address.len x.1 result) (λ i. (sym h.ticket i, sym state i)) is in (
         (tt, (subst (λ o. IsReadAt rules w.bytes o result) (sym begins) gives, tt)),
         record {
           load = record l { read_state = came result (begun (covers rules w) l.ticket.address.block l.read_state) };
@@ -62,7 +62,7 @@ module _ {C : Type 0} (rules : Rules C) (Splits : Splitting C) (is_value : C →
         read_state = ap (λ k. came result (begun (covers rules w) l.ticket.address.block k)) h.read_state;
       }
 
-  pub reads : (w : World C) (n : ℕ) (t : Ticket) (promised : Option (Event C)) (bs : List ℕ) → HasLoad w n t promised ReadIssued → length bs ≡ rules.page_up t.address.len
+  pub reads : (w : World C) (n : ℕ) (t : Ticket) (promised : Option (Event C)) (bs : List ℕ) → HasLoad w n t promised ReadIssued → length bs ≡ t.address.len
       → ((i : ℕ) → i < length bs → slice_index bs i ≡ w.bytes t.address.block (t.address.offset + i))
       → MayAllHappen rules Splits is_value w (events_in (ReadsAt n (Bytes bs))) × HasLoad (after_deed rules w (ReadsAt n (Bytes bs))) n t promised (ReadDone (Bytes bs))
   reads w n t promised bs h len same = read_through w n t promised (Bytes bs) h (len, λ i below _. same i below)

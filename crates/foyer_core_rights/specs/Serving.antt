@@ -32,7 +32,7 @@ pub record Serves {C : Type 0} (rules : Rules C) (Splits : Splitting C) (is_valu
       → HasBlock (after_deed rules w (Steps (LoadBegin h throttled) (Read t) new)) w.issued b
   -- a read that gives what the disk has is one that may happen
   pub reads : (w : World C) (n : ℕ) (t : Ticket) (promised : Option (Event C)) (bs : List ℕ) → HasLoad w n t promised ReadIssued
-      → length bs ≡ rules.page_up t.address.len
+      → length bs ≡ t.address.len
       → ((i : ℕ) → i < length bs → slice_index bs i ≡ w.bytes t.address.block (t.address.offset + i))
       → MayAllHappen rules Splits is_value w (events_in (ReadsAt n (Bytes bs))) × HasLoad (after_deed rules w (ReadsAt n (Bytes bs))) n t promised (ReadDone (Bytes bs))
   -- and so is one that fails

@@ -25,12 +25,12 @@ module _ {fewer more : ℕ → ℕ → ℕ → Type 0} (within : (b o n : ℕ) �
   write_within (Issued b results ws) is = is
   write_within (InFlight b results x ws) is = within b x.offset _ is
 
-  read_within : {C : Type 0} (page_up : ℕ → ℕ) (load : Option (Load C)) → HasReadCome fewer page_up load → HasReadCome more page_up load
-  read_within page_up None is = is
-  read_within page_up (Some l) is = within l.ticket.address.block l.ticket.address.offset (page_up l.ticket.address.len) is
+  read_within : {C : Type 0} (load : Option (Load C)) → HasReadCome fewer load → HasReadCome more load
+  read_within None is = is
+  read_within (Some l) is = within l.ticket.address.block l.ticket.address.offset l.ticket.address.len is
 
   cause_within : {C : Type 0} (rules : Rules C) (w : World C) (event : WorldEvent C) → IsForCause more rules w event → IsForCause fewer rules w event
-  cause_within rules w (ReadEnds n result) is = λ failed comes. is failed (read_within rules.page_up (w.loads n) comes)
+  cause_within rules w (ReadEnds n result) is = λ failed comes. is failed (read_within (w.loads n) comes)
   cause_within rules w (WriteEnds f ok torn) is = λ failed comes. is failed (write_within (w.block_writes f) comes)
   cause_within rules w (CleanEnds b ok torn) is = λ failed comes. is failed (within b 0 page comes)
   cause_within rules w event is = is

@@ -4,7 +4,6 @@ use Rattle.std.specs.Prelude.{OnErr, slice_get, IsSomeAnd}
 use Rattle.std.specs.declared.vec.Vec.{Vec}
 use Rattle.foyer_device_page.specs.declared.error.Error.{Error}
 use Rattle.foyer_device_page.specs.declared.error.ErrorKind.TheVariants as kind
-use Rattle.foyer_format_layout.specs.Page.{page_up}
 use Rattle.foyer_core_model.specs.Follows.{Follows}
 use Rattle.foyer_core_model.specs.Refusal.{HasCause}
 use Rattle.foyer_core_model.specs.Reply as model_reply
@@ -68,7 +67,7 @@ module _ {K V P A : Type 0} (m : Meaning K V P) where
   -- the end of a load is refused for Io only if the load's read failed
   pub load_fails : (hash : ℕ) (throttled : Bool) (ticket : Ticket) (outcome : Result (Vec ℕ A) Error) (answer : Reply K V P A) (old mid new : Core K V P A) (came : ℕ → ℕ → ℕ → Type 0)
       → Looks (step.LoadBegin hash throttled) ticket old → Refines m (step.LoadBegin hash throttled) (reply.Read ticket) old mid
-      → OnErr outcome (came ticket.address.block ticket.address.offset (page_up ticket.address.len) → ⊥)
+      → OnErr outcome (came ticket.address.block ticket.address.offset ticket.address.len → ⊥)
       → Refines m (step.LoadEnd ticket outcome) answer mid new → FailsAtRead m hash came old answer
   load_fails hash throttled ticket (Ok bytes) answer old mid new came looks begins fails ends = λ back is s sound it stands.
       let begun = begins s sound it stands in

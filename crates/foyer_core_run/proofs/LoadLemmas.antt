@@ -5,7 +5,6 @@ use Rattle.std.proofs.lemmas.Option.{slice_get_within}
 use Rattle.std.specs.Prelude.{IfOk, OnErr, vec_len}
 use Rattle.std.specs.declared.vec.Vec.{Vec}
 use Rattle.foyer_device_page.specs.declared.error.Error.{Error}
-use Rattle.foyer_format_layout.specs.Page.{page_up}
 use Rattle.foyer_core_model.specs.Access.{Load, ReadState, ReadIssued, Reading, ReadDone, at_load, begun, came, loads_after, issued_after, block_writes_after, IsRead as IsReadFrom}
 use Rattle.foyer_core_model.specs.Event as model_event
 use Rattle.foyer_core_model.specs.Rules.{Rules}
@@ -39,11 +38,11 @@ use Rattle.foyer_core_run.proofs.StepLemmas.{AreUnread, due_more, unread_goes}
 -- what a read of a ticket brought
 abbrev pub IsCome : {A : Type 0} → (ℕ → ℕ → ℕ) → Ticket → Result (Vec ℕ A) Error → Type 0
 IsCome bytes ticket (Ok got) =
-    IsRead bytes ticket.address.block ticket.address.offset got.items × (length got.items ≡ page_up ticket.address.len)
+    IsRead bytes ticket.address.block ticket.address.offset got.items × (length got.items ≡ ticket.address.len)
 IsCome bytes ticket (Err e) = Unit {0}
 
 pub come_is : {A : Type 0} (bytes : ℕ → ℕ → ℕ) (ticket : Ticket) (outcome : Result (Vec ℕ A) Error)
-    → IfOk outcome (λ got. IsRead bytes ticket.address.block ticket.address.offset got.items) → IfOk outcome (λ got. vec_len got ≡ page_up ticket.address.len)
+    → IfOk outcome (λ got. IsRead bytes ticket.address.block ticket.address.offset got.items) → IfOk outcome (λ got. vec_len got ≡ ticket.address.len)
     → IsCome bytes ticket outcome
 come_is bytes ticket (Ok got) read len = (read, omega (arith, got.ok, len))
 come_is bytes ticket (Err e) read len = tt
@@ -98,7 +97,7 @@ module _ {K V P : Type 0} (m : Meaning K V P) (s : Settings) (sound : AreValid s
 
   -- the disk's bytes are what the world's read gives
   pub gives : {A : Type 0} (w : World Content) (bytes : ℕ → ℕ → ℕ) (ticket : Ticket) (outcome : Result (Vec ℕ A) Error) (seen : ℕ → Bool) → ((b o : ℕ) → w.bytes b o ≡ bytes b o) → IsCome bytes ticket outcome
-      → IsReadFrom (w.bytes ticket.address.block) ticket.address.offset (page_up ticket.address.len) (Reading seen) (came_of outcome)
+      → IsReadFrom (w.bytes ticket.address.block) ticket.address.offset ticket.address.len (Reading seen) (came_of outcome)
   gives w bytes ticket (Ok got) seen same is =
       (is.1, λ i lt free. is.0 i lt ∙ sym (same ticket.address.block (ticket.address.offset + i)))
   gives w bytes ticket (Err e) seen same is = tt
@@ -106,7 +105,7 @@ module _ {K V P : Type 0} (m : Meaning K V P) (s : Settings) (sound : AreValid s
   pub load_moves : {A : Type 0} (sure : ℕ → ℕ → ℕ → Type 0) (from : World Content) (n : ℕ) (ticket : Ticket) (outcome : Result (Vec ℕ A) Error) (answer : Reply K V P A) (tickets tickets' : List (Option Ticket)) (issued : List (Option Issued)) (scans : List (Option Part)) (cleans : List Bool) (said said' : List (Reply K V P A))
       (old new : Core K V P A) (bytes : ℕ → ℕ → ℕ) (w : World Content) → IsRunning m s from tickets issued scans cleans said old bytes w
       → at (slice_get tickets n) ≡ Some ticket → IsCome bytes ticket outcome
-      → OnErr outcome (sure ticket.address.block ticket.address.offset (page_up ticket.address.len) → ⊥) → IsRefined m s sound (step.LoadEnd ticket outcome) answer new w.core
+      → OnErr outcome (sure ticket.address.block ticket.address.offset ticket.address.len → ⊥) → IsRefined m s sound (step.LoadEnd ticket outcome) answer new w.core
       → tickets' ≡ with_ticket (ticket_in answer) (slice_set tickets n None) → said' ≡ said ++ answer ∷ []
       → IsMoved m s sound sure (is_fault (came_of outcome)) from (asks.LoadEnd n) said tickets' issued scans cleans said' new bytes w
   load_moves sure from n ticket outcome answer tickets tickets' issued scans cleans said said' old new bytes w running is_due come unsure met ts ss = record {
@@ -121,7 +120,7 @@ module _ {K V P : Type 0} (m : Meaning K V P) (s : Settings) (sound : AreValid s
     );
     made = inr (t, result, unread_at, record { it = met.it; after = met.after; answer = answer; is = refl; said_is = refl; reply = met.reply });
     replies = ss;
-    causes = (tt, ((λ failed comes. unsure_read outcome unsure failed (subst (HasReadCome sure page_up) (began w k t p kept is) comes)), (tt, tt)));
+    causes = (tt, ((λ failed comes. unsure_read outcome unsure failed (subst (HasReadCome sure) (began w k t p kept is) comes)), (tt, tt)));
     faults = or_none (is_fault result);
     running = record {
       stands = met.stands;

@@ -28,15 +28,15 @@ HasWriteCome came (InFlight b results x ws) = came b x.offset (length x.bytes)
 HasWriteCome came pending = Unit {0}
 
 -- and the read of a load
-abbrev pub HasReadCome : {C : Type 0} → (ℕ → ℕ → ℕ → Type 0) → (page_up : ℕ → ℕ) → Option (Load C) → Type 0
-HasReadCome came page_up None = Unit {0}
-HasReadCome came page_up (Some l) = came l.ticket.address.block l.ticket.address.offset (page_up l.ticket.address.len)
+abbrev pub HasReadCome : {C : Type 0} → (ℕ → ℕ → ℕ → Type 0) → Option (Load C) → Type 0
+HasReadCome came None = Unit {0}
+HasReadCome came (Some l) = came l.ticket.address.block l.ticket.address.offset l.ticket.address.len
 
 module _ {C : Type 0} (came : ℕ → ℕ → ℕ → Type 0) (rules : Rules C) where
   -- A write, a clean or the read of a load that failed isn't one of which it is sure that it came. Of a reclaim's read
   -- nothing is said: it fails for memory too.
   abbrev pub IsForCause : World C → WorldEvent C → Type 0
-  IsForCause w (ReadEnds n result) = result ≡ Fault → HasReadCome came rules.page_up (w.loads n) → ⊥
+  IsForCause w (ReadEnds n result) = result ≡ Fault → HasReadCome came (w.loads n) → ⊥
   IsForCause w (WriteEnds f ok torn) = ok ≡ false → HasWriteCome came (w.block_writes f) → ⊥
   IsForCause w (CleanEnds b ok torn) = ok ≡ false → came b 0 page → ⊥
   IsForCause w event = Unit {0}

@@ -4,7 +4,6 @@ use Rattle.std.specs.declared.vec.Vec.{Vec}
 use Rattle.foyer_block_index.specs.Index.{address_at}
 use Rattle.foyer_block_index.specs.declared.indexer.EntryAddress.{EntryAddress}
 use Rattle.foyer_device_page.specs.declared.error.ErrorKind.TheVariants as kind
-use Rattle.foyer_format_layout.specs.Page.{page_up}
 use Rattle.foyer_core_model.specs.State.{State}
 use Rattle.foyer_core_laws.specs.Content.{Content, Meaning}
 use Rattle.foyer_core_laws.specs.Sizes.{AreValid}
@@ -27,7 +26,7 @@ use Rattle.foyer_core_run.specs.Runs.{Runs}
 abbrev pub FailsAtRead : {K V P A : Type 0} → Meaning K V P → (hash : ℕ) → (came : ℕ → ℕ → ℕ → Type 0) → Core K V P A → Reply K V P A → Type 0
 FailsAtRead {K} {V} {P} {A} m hash came old last =
     (back : Step K V P A) → last ≡ reply.Refused kind.Io back → (s : Settings) → AreValid s → (it : State Content) → IsStateOf m s old it
-    → (a : EntryAddress) × (address_at old.index.slots hash ≡ Some a) × (came a.block a.offset (page_up a.len) → ⊥)
+    → (a : EntryAddress) × (address_at old.index.slots hash ≡ Some a) × (came a.block a.offset a.len → ⊥)
 
 -- A flusher was issued a block's writes, and the last of those that were done, behind so many that went well, was answered
 -- Failed: it isn't sure that it came; or the index, which none of them changed, had to grow for the block's records.

@@ -1,13 +1,13 @@
 -- How a load ends, by what its bytes are.
-use Rattle.std.proofs.Common.{◌≡◌, ℕ, ◌<◌, ◌==◌, Bool, true, false, if◌then◌else◌, List, length, take, Ok, refl, sym, ap, subst, ◌∙◌}
+use Rattle.std.proofs.Common.{◌≡◌, ℕ, ◌<◌, ◌==◌, Bool, true, false, if◌then◌else◌, List, length, take, Ok, refl, sym, ap, subst, ◌∙◌, arith}
 use Rattle.std.proofs.lemmas.Bool.{eqb-true, eq-eqb}
+use Rattle.std.proofs.lemmas.List.{take_all}
 use Rattle.std.specs.declared.vec.Vec.{Vec}
 use Rattle.foyer_device_page.specs.Error.{kind_of}
 use Rattle.foyer_device_page.specs.declared.error.Error.{Error}
 use Rattle.foyer_device_page.specs.declared.error.Error.TheVariants as error
 use Rattle.foyer_device_page.specs.declared.error.ErrorKind.{ErrorKind}
 use Rattle.foyer_device_page.specs.declared.error.ErrorKind.TheVariants as kind
-use Rattle.foyer_format_layout.specs.Page.{page_up}
 use Rattle.foyer_format_record.specs.Record as format
 use Rattle.foyer_format_record.specs.Refusals.{IsRecordFault, ReachesPair}
 use Rattle.foyer_format_record.specs.declared.serde.ages.Age.{Age}
@@ -32,6 +32,10 @@ use Rattle.foyer_core_steps.specs.declared.step.Step.TheVariants as step
 use Rattle.foyer_core_steps.specs.declared.step.Ticket.{Ticket}
 use Rattle.foyer_core_steps.proofs.TurnLemmas.{same, refused}
 
+-- as many of the bytes as there are, are all of them
+pub all_bytes : (n : ℕ) (bytes : List ℕ) → length bytes ≡ n → take n bytes ≡ bytes
+all_bytes n bytes many = take_all n bytes (omega (arith, many))
+
 module _ {K V P : Type 0} (m : Meaning K V P) (s : Settings) (sound : AreValid s) (it : State Content) (t : Ticket) where
   -- another filling has begun
   pub judged_past : (bs : List ℕ) → (t.address.filling ≡ it.filling t.address.block → ⊥) → judged (machine m s sound) it (ticket_of t) bs ≡ NoRecord
@@ -52,7 +56,7 @@ module _ {K V P : Type 0} (m : Meaning K V P) (s : Settings) (sound : AreValid s
       ∙ ap outcome_of is
 
 module _ {K V P A : Type 0} (m : Meaning K V P) (s : Settings) (sound : AreValid s) (it : State Content) (t : Ticket) (bytes : Vec ℕ A)
-    (there : t.address.block < s.blocks) (as_issued : length bytes.items ≡ page_up t.address.len) where
+    (there : t.address.block < s.blocks) (as_issued : length bytes.items ≡ t.address.len) where
   pub misses : (new : Core K V P A) → IsStateOf m s new (missed it t) → judged (machine m s sound) it (ticket_of t) bytes.items ≡ NoRecord
       → IsRefinedUncounted m s sound (step.LoadEnd t (Ok bytes)) reply.Miss new it
   misses new stands is = record {

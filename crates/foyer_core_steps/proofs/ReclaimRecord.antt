@@ -2,7 +2,6 @@
 use Rattle.std.proofs.Common.{◌≡◌, ℕ, suc, ◌+◌, ◌*◌, ◌^◌, ◌<◌, ◌≤◌, ◌%◌, Bool, false, if◌then◌else◌, List, [], ◌∷◌, ◌++◌, Option, Some, None, option_map, map, take, length, refl, sym, ap, subst, ◌∙◌, arith}
 use Rattle.std.proofs.lemmas.Bool.{eq-eqb}
 use Rattle.foyer_block_index.specs.declared.indexer.HashedEntryAddress.{HashedEntryAddress}
-use Rattle.foyer_format_layout.specs.Page.{page_up}
 use Rattle.foyer_core_model.specs.InTurn.{InTurn}
 use Rattle.foyer_core_model.specs.Numbers.{put}
 use Rattle.foyer_core_model.specs.Reclaim.{issued_at, stage_after, Scanned, Rereads}
@@ -53,7 +52,7 @@ module _ {K V P : Type 0} (m : Meaning K V P) (s : Settings) (sound : AreValid s
     reclaims = put it.reclaims b (Some next_reclaim);
   }
 
-  pub record_turn : length bytes ≡ page_up (e.address).len → InTurn (machine m s sound) it (ReclaimRead b (Bytes bytes))
+  pub record_turn : length bytes ≡ (e.address).len → InTurn (machine m s sound) it (ReclaimRead b (Bytes bytes))
   record_turn long = ((reads.stands_as).there, reads_record_for m s sound b (it.place b) (it.filling b) o (it.reclaims b) e bytes reads long)
 
   pub rereads : Rereads (machine m s sound) it b (it.reclaims b) (Bytes bytes) (issued_at (machine m s sound) it b next_reclaim.stage []) requeued_state
@@ -62,7 +61,7 @@ module _ {K V P : Type 0} (m : Meaning K V P) (s : Settings) (sound : AreValid s
       (subst (λ k. Scanned (machine m s sound) it b reads.model k (Bytes bytes) (issued_at (machine m s sound) it b next_reclaim.stage []) requeued_state) (sym reads.stage) (refl, refl))
 
   -- memory may be refused for it
-  pub would_requeue : length bytes ≡ page_up (e.address).len
+  pub would_requeue : length bytes ≡ (e.address).len
       → InTurn (machine m s sound) it (ReclaimRead b (Bytes bytes)) × NeedsMemory (machine m s sound) (layout s) it (ReclaimRead b (Bytes bytes))
   would_requeue long = (record_turn long, (issued_at (machine m s sound) it b next_reclaim.stage [], requeued_state, rereads, tt))
 

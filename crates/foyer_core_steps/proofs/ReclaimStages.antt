@@ -3,7 +3,6 @@ use Rattle.std.specs.Prelude.{is_none}
 use Rattle.std.proofs.Common.{◌≡◌, ℕ, ◌==◌, Bool, true, false, not, ◌&&◌, if◌then◌else◌, List, [], ◌∷◌, map, length, Option, Some, None, refl, sym, ap, subst, ◌∙◌, arith}
 use Rattle.std.proofs.lemmas.Bool.Decides.{nat_tests}
 use Rattle.foyer_block_index.specs.declared.indexer.HashedEntryAddress.{HashedEntryAddress}
-use Rattle.foyer_format_layout.specs.Page.{page_up}
 use Rattle.foyer_core_model.specs.InTurn.{ReadsFor, IsScan, IsAt}
 use Rattle.foyer_core_model.specs.Reclaim.{Scanned, reclaiming as model_reclaiming}
 use Rattle.foyer_core_model.specs.Reply as model_reply
@@ -125,7 +124,7 @@ module _ {K V P : Type 0} (m : Meaning K V P) (s : Settings) (sound : AreValid s
       subst (λ k. ReadsFor (machine m s sound) k came) (sym reads.is) (subst (λ k. IsScan (machine m s sound) k came) (sym reads.stage) scan)
 
   pub reads_record_for : (o : Option Reclaiming) (its : Option model_state.Reclaim) (e : HashedEntryAddress) (bytes : List ℕ) → (reads : ReadsRecord o its e)
-      → length bytes ≡ page_up (e.address).len → ReadsFor (machine m s sound) its (Bytes bytes)
+      → length bytes ≡ (e.address).len → ReadsFor (machine m s sound) its (Bytes bytes)
   reads_record_for o its e bytes reads long =
       subst (λ k. ReadsFor (machine m s sound) k (Bytes bytes)) (sym reads.is) (subst (λ k. IsScan (machine m s sound) k (Bytes bytes)) (sym reads.stage) long)
 
@@ -135,7 +134,7 @@ module _ {K V P : Type 0} (m : Meaning K V P) (s : Settings) (sound : AreValid s
       subst (λ k. IsScan (machine m s sound) k (Bytes bytes)) reads.stage (subst (λ k. ReadsFor (machine m s sound) k (Bytes bytes)) reads.is turn)
 
   pub not_as_long_record : (o : Option Reclaiming) (its : Option model_state.Reclaim) (e : HashedEntryAddress) (bytes : List ℕ) → ReadsRecord o its e
-      → ReadsFor (machine m s sound) its (Bytes bytes) → length bytes ≡ page_up (e.address).len
+      → ReadsFor (machine m s sound) its (Bytes bytes) → length bytes ≡ (e.address).len
   not_as_long_record o its e bytes reads turn =
       subst (λ k. IsScan (machine m s sound) k (Bytes bytes)) reads.stage (subst (λ k. ReadsFor (machine m s sound) k (Bytes bytes)) reads.is turn)
 

@@ -2,7 +2,6 @@
 use Rattle.std.specs.Prelude.{◌≡◌, ℕ, Bool, true, List, length, take, Option, Some, None, Result, Ok, Err}
 use Rattle.std.specs.declared.vec.Vec.{Vec}
 use Rattle.foyer_device_page.specs.declared.error.Error.{Error}
-use Rattle.foyer_format_layout.specs.Page.{page_up}
 use Rattle.foyer_format_record.specs.Record.{pair_of}
 use Rattle.foyer_format_record.specs.Record.Outcome.{NoRecord, Pair}
 use Rattle.foyer_format_record.specs.Refusals.{IsRecordFault}
@@ -16,8 +15,8 @@ module _ {K V : Type 0} (is_key is_value : List ℕ → Bool) (key_of : K → Li
   IsReadAs bytes hash sequence (Ok None) = pair_of is_key is_value bytes hash sequence ≡ NoRecord
   IsReadAs bytes hash sequence (Err e) = IsRecordFault (pair_of is_key is_value bytes hash sequence) e
 
-  -- of a read that is whole, what as many of its first bytes as the ticket's address has are as a record
+  -- of a read that has as many bytes as the ticket's address, what they are as a record
   abbrev pub IsJudged : {A : Type 0} → Ticket → Result (Vec ℕ A) Error → Result (Option (K × V)) Error → Type 0
   IsJudged ticket (Ok bytes) found =
-      length bytes.items ≡ page_up ticket.address.len → IsReadAs (take ticket.address.len bytes.items) ticket.hash ticket.address.sequence found
+      length bytes.items ≡ ticket.address.len → IsReadAs (take ticket.address.len bytes.items) ticket.hash ticket.address.sequence found
   IsJudged ticket (Err e) found = Unit {0}

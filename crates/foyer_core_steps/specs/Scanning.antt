@@ -3,7 +3,6 @@ use Rattle.std.specs.Prelude.{◌≡◌, ℕ, Bool, List, Option, Some, None, Re
 use Rattle.std.specs.declared.vec.Vec.{Vec}
 use Rattle.foyer_device_page.specs.declared.error.Error.{Error}
 use Rattle.foyer_policy_filter.specs.declared.verdict.StorageFilterResult.{StorageFilterResult}
-use Rattle.foyer_format_layout.specs.Page.{page_up}
 use Rattle.foyer_device_statistics.specs.declared.state.IoState.{IoState}
 use Rattle.foyer_core_steps.specs.Reclaiming.{IsReread, Reclaiming, index_infos, reclaim_at, verdict_list, wanted_of}
 use Rattle.foyer_core_steps.specs.declared.block.reclaimer.Wanted.{Wanted}
@@ -12,11 +11,11 @@ use Rattle.foyer_core_steps.specs.declared.reply.Reply.{Reply}
 use Rattle.foyer_core_steps.specs.declared.reply.Reply.TheVariants as reply
 use Rattle.foyer_core_steps.specs.declared.state.Core.{Core}
 
--- the read of what is wanted: an index, or a record in whole pages
+-- the read of what is wanted: an index, or a record
 abbrev pub scan_reply : {K V P A : Type 0} → (block index_size : ℕ) → Option Wanted → Option (Vec Bool A) → Reply K V P A
 scan_reply block index_size None verdicts = reply.Listed verdicts
 scan_reply block index_size (Some (wanted.Index place)) verdicts = reply.Scan block place index_size verdicts
-scan_reply block index_size (Some (wanted.Record e)) verdicts = reply.Scan block (e.address).offset (page_up (e.address).len) verdicts
+scan_reply block index_size (Some (wanted.Record e)) verdicts = reply.Scan block (e.address).offset (e.address).len verdicts
 
 -- the verdicts on what was read: of an index the filter's, one on each entry; of a record there are none
 abbrev pub AreOn : {Q : Type 0} → (Q → IoState → ℕ → ℕ → StorageFilterResult → Type 0) → Option (List Q) → IoState → List ℕ → Reclaiming → Option Wanted → Option (List Bool) → Type 0

@@ -57,6 +57,8 @@ pub fn no_io() -> IoState
         disk_read_ios: 0,
         write_throttle: Duration::ZERO,
         read_throttle: Duration::ZERO,
+        last_write_error: 0,
+        last_read_error: 0,
     }
 }
 

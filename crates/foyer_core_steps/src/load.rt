@@ -2,7 +2,6 @@
 ghost use Rattle.std.specs.Prelude.{◌≡◌, ◌⊎◌, ℕ, Err, Option, drop, length, slice_get, take};
 ghost use Rattle.foyer_device_page.specs.declared.error.Error.TheVariants as error;
 ghost use Rattle.foyer_device_page.specs.declared.error.ErrorKind.TheVariants.{Memory};
-ghost use Rattle.foyer_format_layout.specs.Page.{page_up};
 ghost use Rattle.foyer_format_record.specs.declared.serde.ages.Age.{Age as age};
 ghost use Rattle.foyer_core_steps.specs.Answered.{HandsBack, AnswersPair, Describes, Looking, MayWantMemory, spare_of};
 ghost use Rattle.foyer_core_model.specs.State.{State};
@@ -38,13 +37,14 @@ fn load_end<K, V, P, A: Allocator>(ticket: Ticket, outcome: Result<Vec<u8, A>>) 
     }
 }
 
-// Gives what the first bytes of a read are as a record of its ticket. Looks at nothing if the read isn't whole.
+// Gives what the bytes of a read are as a record of its ticket. Looks at nothing if they are more or fewer than the ticket's.
+#[tactic(auto, using(crate::proofs::LoadLemmas::all_bytes))]
 fn judge_bytes<K: Code<A> + Drop, V: Code<A> + Drop, A: Allocator + Clone>(
     alloc: &A,
     ticket: &Ticket,
     bytes: &[u8],
 ) -> Result<Option<(K, V)>>
-    ensures read { length bytes.now ≡ page_up ticket.now.address.len
+    ensures read { length bytes.now ≡ ticket.now.address.len
         → IsReadAs K.is_decodable V.is_decodable K.encoding V.encoding K.is_encodable V.is_encodable
         (take ticket.now.address.len bytes.now) ticket.now.hash ticket.now.address.sequence result }
     ensures memory { result ≡ Err error.Memory → (value_len key_len : ℕ)
@@ -54,8 +54,7 @@ fn judge_bytes<K: Code<A> + Drop, V: Code<A> + Drop, A: Allocator + Clone>(
     if bytes.len() != ticket.read_len() {
         return Ok(None);
     }
-    let record = &bytes[..ticket.address.len as usize];
-    read_record(alloc, record, ticket.hash, ticket.address.sequence)
+    read_record(alloc, bytes, ticket.hash, ticket.address.sequence)
 }
 
 // The same of what was read, if the read went well.

@@ -1,6 +1,5 @@
 //! The steps of a reclaim.
 ghost use Rattle.std.specs.Prelude.{◌≡◌, ◌<◌, ◌%◌, ℕ, Some, Ok, IfSome, vec_len};
-ghost use Rattle.foyer_format_layout.specs.Page.{page_up};
 ghost use Rattle.foyer_core_steps.specs.Reclaiming.{awaited, reclaim_at, requeue_count};
 ghost use Rattle.foyer_core_steps.specs.Scanning.{HasNoVerdicts, IsJudged, scan_reply};
 ghost use Rattle.foyer_core_steps.specs.Answered.{HandsBack, DescribesNothing, Idling, IsPicked};
@@ -15,14 +14,13 @@ use crate::env::Env;
 use crate::reply::Reply;
 use crate::state::Core;
 use crate::step::Step;
-use foyer_block_index::indexer::{EntryAddress, HashedEntryAddress};
+use foyer_block_index::indexer::HashedEntryAddress;
 use foyer_block_index::manager::BlockId;
 use foyer_block_manager::block::eviction::EvictionPicker;
 use foyer_block_manager::block::manager::ReclaimingBlock;
 use foyer_core_flusher::core_blocks::manager::filling_of;
 use foyer_core_flusher::flusher::{Reinsertion, Submission};
 use foyer_device_page::error::{ErrorKind, Result};
-use foyer_format_record::block::buffer::PAGE;
 use foyer_policy_filter::StorageFilterCondition;
 use std::alloc::Allocator;
 
@@ -37,14 +35,6 @@ fn reclaim_read<K, V, P, A: Allocator>(
         block,
         result: outcome,
     }
-}
-
-// The bytes that a record takes, in whole pages.
-#[tactic(auto, unfolding(foyer_format_layout::specs::Page::page_up))]
-fn record_pages(address: &EntryAddress) -> usize
-    ensures { result ≡ page_up address.now.len }
-{
-    (address.len as usize).div_ceil(PAGE) * PAGE
 }
 
 impl<K, V, P, A: Allocator + Clone> Core<K, V, P, A> {
@@ -114,7 +104,7 @@ impl<K, V, P, A: Allocator + Clone> Core<K, V, P, A> {
             Some(Wanted::Record(entry)) => Reply::Scan {
                 block,
                 offset: entry.address.offset as usize,
-                len: record_pages(&entry.address),
+                len: entry.address.len as usize,
                 verdicts,
             },
             None => Reply::Listed { verdicts },
@@ -171,7 +161,7 @@ impl<K, V, P, A: Allocator + Clone> Core<K, V, P, A> {
         ensures meets { (m : Meaning K V P) → RefinesUncounted m (step.ReclaimRead block (Ok bytes)) result self.old self.new }
         ensures unjudged { HasNoVerdicts result }
     {
-        if bytes.len() != record_pages(&entry.address) {
+        if bytes.len() != entry.address.len as usize {
             return Reply::NotNow(reclaim_read(block, Ok(bytes)));
         }
         let flusher = self.turn_of(block);
@@ -182,13 +172,11 @@ impl<K, V, P, A: Allocator + Clone> Core<K, V, P, A> {
         match reclaimer::requeue(&mut self.reclaims, block) {
             Err(_) => Reply::Refused(ErrorKind::Memory, reclaim_read(block, Ok(bytes))),
             Ok(()) => {
-                let mut slice = bytes;
-                slice.truncate(entry.address.len as usize);
                 queue.push_back_reserved(Submission::Reinsertion {
                     reinsertion: Reinsertion {
                         hash: entry.hash,
                         address: entry.address,
-                        slice,
+                        slice: bytes,
                     },
                 });
                 self.next_read(block, None)

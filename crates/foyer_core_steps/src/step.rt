@@ -1,15 +1,13 @@
 //! What may happen to the core.
-ghost use Rattle.std.specs.Prelude.{◌≡◌, ◌≤◌};
-ghost use Rattle.foyer_format_layout.specs.Page.{page_up};
+ghost use Rattle.std.specs.Prelude.{◌≡◌};
 
 use foyer_block_index::indexer::EntryAddress;
 use foyer_block_index::manager::BlockId;
 use foyer_device_page::error::Result;
-use foyer_format_record::block::buffer::PAGE;
 use foyer_policy_piece::keeper::PieceRef;
 use std::alloc::Allocator;
 
-/// What a load reads: `page_up(address.len)` bytes at its address. The record is in the first `address.len` of them.
+/// What a load reads: the `address.len` bytes of a record, at its address.
 #[derive(Clone, Copy, Debug, PartialEq, Eq)]
 pub struct Ticket {
     /// The hash that was looked up.
@@ -19,13 +17,11 @@ pub struct Ticket {
 }
 
 impl Ticket {
-    /// How many bytes are read: the record's, in whole pages.
-    #[tactic(auto, unfolding(foyer_format_layout::specs::Page::page_up))]
+    /// How many bytes are read: the record's, without its padding.
     pub fn read_len(&self) -> usize
-        ensures pages { result ≡ page_up self.now.address.len }
-        ensures all { self.now.address.len ≤ result }
+        ensures { result ≡ self.now.address.len }
     {
-        (self.address.len as usize).div_ceil(PAGE) * PAGE
+        self.address.len as usize
     }
 }
 

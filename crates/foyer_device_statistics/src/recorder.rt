@@ -110,6 +110,16 @@ impl<A: Allocator> Recorder<A> {
         self.statistics.record_disk_read(&mut self.seat, bytes);
     }
 
+    /// Notes the system's number of a write that failed, or 0 if the system gave none.
+    pub fn note_write_error(&self, code: i32) {
+        self.statistics.note_write_error(code);
+    }
+
+    /// Notes the system's number of a read that failed, or 0 if the system gave none.
+    pub fn note_read_error(&self, code: i32) {
+        self.statistics.note_read_error(code);
+    }
+
     /// The bytes written so far.
     pub fn disk_write_bytes(&mut self) -> u64
         ensures same { (self.new.table ≡ self.old.table) × (self.new.limits ≡ self.old.limits) }
@@ -182,7 +192,7 @@ impl<A: Allocator> Recorder<A> {
         self.statistics.is_read_throttled(rt, &mut self.seat, now)
     }
 
-    /// The four counters and both waits.
+    /// The four counters, both waits, and the numbers of the last faults.
     pub fn io_state(&mut self, rt: &impl Wait, now: u64) -> IoState
         ensures same { (self.new.table ≡ self.old.table) × (self.new.limits ≡ self.old.limits) }
         ensures sees { SeesState result self.old.view self.new.view }

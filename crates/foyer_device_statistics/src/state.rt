@@ -16,6 +16,10 @@ pub struct IoState {
     pub write_throttle: Duration,
     /// How long to wait before the next read.
     pub read_throttle: Duration,
+    /// The system's number of the last write that failed, or 0 if there was none or the system gave no number.
+    pub last_write_error: i32,
+    /// The same of the last read that failed.
+    pub last_read_error: i32,
 }
 
 /// All that was recorded.

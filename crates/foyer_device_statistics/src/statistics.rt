@@ -14,6 +14,7 @@ use foyer_device_page::error::Result;
 use foyer_device_throttle::Throttle;
 use std::alloc::Allocator;
 use std::marker::{Brand, Model};
+use std::sync::atomic::{AtomicI32, Ordering};
 use std::sync::{Mutex, Wait};
 use std::time::Duration;
 
@@ -50,6 +51,9 @@ pub struct Statistics<A: Allocator> {
     throttle: Throttle,
     writes: Mutex<Meters>,
     reads: Mutex<Meters>,
+    // The system's numbers of the last faults, or 0.
+    last_write_error: AtomicI32,
+    last_read_error: AtomicI32,
 }
 
 // Written out, so that it is proved once.
@@ -60,6 +64,8 @@ impl<A: Allocator> Drop for Statistics<A> {
             throttle: _,
             writes: _,
             reads: _,
+            last_write_error: _,
+            last_read_error: _,
         } = self;
     }
 }
@@ -90,6 +96,8 @@ impl<A: Allocator> Statistics<A> {
             throttle,
             writes: Mutex::new(Meters::new(now)),
             reads: Mutex::new(Meters::new(now)),
+            last_write_error: AtomicI32::new(0),
+            last_read_error: AtomicI32::new(0),
         };
         Ok((statistics, Seat { place }))
     }
@@ -179,6 +187,16 @@ impl<A: Allocator> Statistics<A> {
         let ios = self.throttle.iops_counter.count(bytes);
         self.add(seat, READ_BYTES, bytes as u64);
         self.add(seat, READ_IOS, ios as u64);
+    }
+
+    /// Notes the system's number of a write that failed, or 0 if the system gave none. Waits for nobody.
+    pub fn note_write_error(&self, code: i32) {
+        self.last_write_error.store(code, Ordering::Relaxed);
+    }
+
+    /// Notes the system's number of a read that failed, or 0 if the system gave none. Waits for nobody.
+    pub fn note_read_error(&self, code: i32) {
+        self.last_read_error.store(code, Ordering::Relaxed);
     }
 
     /// The bytes written so far.
@@ -294,7 +312,7 @@ impl<A: Allocator> Statistics<A> {
         !self.read_throttle(rt, seat, now).is_zero()
     }
 
-    /// The four counters and both waits. Takes the two locks, one after the other.
+    /// The four counters, both waits, and the numbers of the last faults. Takes the two locks, one after the other.
     pub fn io_state(&self, rt: &impl Wait, seat: &mut Seat, now: u64) -> IoState
         requires { seat.old.table ≡ self.now.table }
         ensures table { seat.new.table ≡ seat.old.table }
@@ -313,6 +331,8 @@ impl<A: Allocator> Statistics<A> {
             disk_read_ios: reads.ios,
             write_throttle: writes.wait,
             read_throttle: reads.wait,
+            last_write_error: self.last_write_error.load(Ordering::Relaxed),
+            last_read_error: self.last_read_error.load(Ordering::Relaxed),
         }
     }
 

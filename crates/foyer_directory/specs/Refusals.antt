@@ -11,16 +11,26 @@ abbrev pub IsLockError : LockError → Type 0
 IsLockError refusal.InUse = Unit {0}
 IsLockError refusal.OtherShape = Unit {0}
 IsLockError (refusal.Fault e) = (e ≡ error.Io) ⊎ (e ≡ error.Memory)
+IsLockError (refusal.System code) = Unit {0}
+
+-- whether its line has no words of the system
+abbrev pub IsNamed : LockError → Type 0
+IsNamed (refusal.System code) = ⊥
+IsNamed refusal.InUse = Unit {0}
+IsNamed refusal.OtherShape = Unit {0}
+IsNamed (refusal.Fault e) = Unit {0}
 
 abbrev pub error_of : LockError → Error
 error_of refusal.InUse = error.Io
 error_of refusal.OtherShape = error.Config
 error_of (refusal.Fault e) = e
+error_of (refusal.System code) = error.Io
 
 abbrev pub text_of : LockError → List ℕ
 text_of refusal.InUse = codes "the directory is in use"
 text_of refusal.OtherShape = codes "its block size, cores and log must be those in its foyer.lock"
 text_of (refusal.Fault _) = codes "the directory couldn't be opened"
+text_of (refusal.System code) = codes "the directory couldn't be opened"
 
 abbrev pub after : List ℕ → List ℕ
 after words = codes ": " ++ words

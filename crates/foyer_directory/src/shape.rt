@@ -1,7 +1,7 @@
 //! What a directory is made for, and what its lock's file says of that.
 ghost use Rattle.std.specs.Prelude.{◌≡◌, ℕ, ◌+◌, ◌^◌, ◌≤◌, List, ◌++◌, IfOk, IsOkUnless, string_bytes};
 ghost use Rattle.foyer_device_page.specs.declared.error.Error.TheVariants.{Memory};
-ghost use Rattle.foyer_directory.specs.Shapes.{IsShape, recorded_as, shape_line, whole_pages};
+ghost use Rattle.foyer_directory.specs.Shapes.{IsShape, recorded_as, shape_line, wanted_log, whole_pages};
 ghost use Rattle.foyer_directory.specs.declared.shape.DirectoryShape.{DirectoryShape};
 
 use foyer_device_page::error::Result;
@@ -65,6 +65,44 @@ impl DirectoryShape {
         let log = if self.has_log { "1" } else { "0" };
         let line = format!(in alloc; "block={block_size} cores={cores} log={log}\n")?;
         Ok(line)
+    }
+}
+
+/// What a caller asks of a directory, which may leave the log to the directory.
+#[derive(Clone, Copy, Debug, PartialEq, Eq)]
+pub struct WantedShape {
+    /// The size of a block in bytes. It is rounded up to whole pages.
+    pub block_size: u64,
+    /// Into how many cores the keys are divided.
+    pub cores: u64,
+    /// Whether deletes are logged. `None`: as the directory was made. A new directory gets a log, and one from before directories had
+    /// such a line has none.
+    pub log: Option<bool>,
+}
+
+/// What a directory says of its log.
+#[derive(Clone, Copy, Debug, PartialEq, Eq)]
+pub enum LogFound {
+    /// Its line has `log=1`.
+    Logged,
+    /// It has neither a line nor a block's file.
+    New,
+    /// Its line says otherwise, or it has block files without a line.
+    Unlogged,
+}
+
+impl WantedShape {
+    /// The shape that is wanted of a directory that says this of its log.
+    pub fn shape(&self, found: LogFound) -> DirectoryShape
+        ensures cores { result.cores ≡ self.now.cores }
+        ensures log { result.has_log ≡ wanted_log self.now.log found }
+        ensures size { self.now.block_size + 4096 ≤ 2 ^ 64 → result.block_size ≡ whole_pages self.now.block_size }
+    {
+        let has_log = match self.log {
+            Some(has_log) => has_log,
+            None => found != LogFound::Unlogged,
+        };
+        DirectoryShape::new(self.block_size, self.cores, has_log)
     }
 }
 

@@ -6,7 +6,7 @@ use Rattle.std.proofs.lemmas.Bool.{ltb-false, le-ltb, eqb-true}
 use Rattle.std.proofs.lemmas.List.{take_at, drop_at, take-append-drop, length-append, length-drop, length-take-le}
 use Rattle.std.proofs.lemmas.Nat.{from_le_bytes-to_le_bytes_4}
 use Rattle.foyer_frames.specs.declared.kind.Kind.{Kind}
-use Rattle.foyer_frames.specs.declared.kind.Kind.TheVariants.{Put, Get, Delete, Contains, Wait, Counters, Destroy, Close}
+use Rattle.foyer_frames.specs.declared.kind.Kind.TheVariants.{Put, Get, Delete, Contains, Wait, Counters, Destroy, Close, Version}
 use Rattle.foyer_frames.specs.declared.request.Fault.{Fault}
 use Rattle.foyer_frames.specs.declared.request.Fault.TheVariants.{Short}
 use Rattle.foyer_frames.specs.declared.request.Head.{Head}
@@ -28,6 +28,7 @@ kind_again Wait = refl
 kind_again Counters = refl
 kind_again Destroy = refl
 kind_again Close = refl
+kind_again Version = refl
 
 some_is : (k j : Kind) → Some k ≡ Some j → k ≡ j
 some_is k j e = cc
@@ -44,7 +45,7 @@ no_kind j e = cc
 
 pub kind_is : (b : ℕ) (j : Kind) → kind_of b ≡ Some j → b ≡ kind_byte j
 kind_is b j =
-    next_kind b Put j _ (next_kind b Get j _ (next_kind b Delete j _ (next_kind b Contains j _ (next_kind b Wait j _ (next_kind b Counters j _ (next_kind b Destroy j _ (next_kind b Close j _ (λ e. absurd (no_kind j e)))))))))
+    next_kind b Put j _ (next_kind b Get j _ (next_kind b Delete j _ (next_kind b Contains j _ (next_kind b Wait j _ (next_kind b Counters j _ (next_kind b Destroy j _ (next_kind b Close j _ (next_kind b Version j _ (λ e. absurd (no_kind j e))))))))))
 
 -- ---- heads
 

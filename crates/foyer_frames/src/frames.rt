@@ -1,7 +1,12 @@
 //! The requests of a stream, one at a time.
-ghost use Rattle.std.specs.Prelude.{◌≡◌, ◌+◌, ◌≤◌, ◌++◌, ℕ, List, Some, max, IfOk, IfSome, OnErr};
+ghost use Rattle.std.specs.Prelude.{◌≡◌, ◌+◌, ◌≤◌, ◌++◌, ◌⊎◌, ℕ, List, Err, Some, max, IfErr, IfOk, IfSome, OnErr};
 ghost use Rattle.std.specs.Io.KnownBytes.{Keeps};
+ghost use Rattle.std.specs.IoError.{error_kind};
+ghost use Rattle.std.specs.declared.io.ErrorKind.TheVariants.{OutOfMemory};
+ghost use Rattle.foyer_frames.specs.declared.request.Fault.TheVariants.{Short};
+ghost use Rattle.foyer_frames.specs.Request.{request_at};
 
+use crate::read::FrameReader;
 use crate::request::{Fault, Head, Limits};
 use crate::window::Window;
 pub use crate::window::{Filled, Taken};
@@ -39,7 +44,7 @@ impl<R: Read + Drop, A: Allocator> Drop for Frames<R, A> {
     }
 }
 
-impl<R: Read + Drop, A: Allocator> Frames<R, A> {
+impl<R: FrameReader + Drop, A: Allocator> Frames<R, A> {
     ghost use Rattle.foyer_frames.specs.Stream.{Fills, Finds, Takes, buffer_len, buffered, last_key, last_value, limits_of, unread};
 
     /// Gives the requests of a reader. Nothing is read yet. Errors: `AllocError` if there is no memory for 64 KiB.
@@ -88,6 +93,9 @@ impl<R: Read + Drop, A: Allocator> Frames<R, A> {
     /// buffer can't grow. An error loses nothing, and the call may be made again.
     pub fn fill(&mut self) -> io::Result<Filled>
         ensures filled { IfOk result (λ f. Fills (limits_of self.old) (buffered self.old) f (buffered self.new) (R.remaining self.new.input)) }
+        // An error comes only if a read is needed. It is the reader's, or memory was refused.
+        ensures needed { OnErr result (request_at (limits_of self.old) (buffered self.old) ≡ Err Short) }
+        ensures refused { IfErr result (λ e. R.may_fail e ⊎ (error_kind e ≡ OutOfMemory)) }
         ensures front { (more : List ℕ) × (buffered self.new ≡ buffered self.old ++ more) }
         ensures kept { Keeps (unread R.remaining self.old) (unread R.remaining self.new) }
         ensures limits { limits_of self.new ≡ limits_of self.old }
@@ -115,6 +123,7 @@ impl<R: Read + Drop, A: Allocator> Frames<R, A> {
         ensures read { IfOk result (λ n. (more : List ℕ)
             × Finds (limits_of self.old) (buffered self.old ++ more) n (last_key self.new) (last_value self.new) (Some (buffered self.new))) }
         ensures err { OnErr result (Keeps (unread R.remaining self.old) (unread R.remaining self.new)) }
+        ensures refused { IfErr result (λ e. R.may_fail e ⊎ (error_kind e ≡ OutOfMemory)) }
         ensures front { OnErr result ((more : List ℕ) × (buffered self.new ≡ buffered self.old ++ more)) }
         ensures limits { limits_of self.new ≡ limits_of self.old }
     {
@@ -130,6 +139,7 @@ impl<R: Read + Drop, A: Allocator> Frames<R, A> {
                 Filled::Cut => return Ok(Next::Cut),
             }
         }
-        Err(io::Error::from(io::ErrorKind::Interrupted))
+        // No memory holds so many bytes.
+        Err(io::Error::from(io::ErrorKind::OutOfMemory))
     }
 }

@@ -21,6 +21,8 @@ pub enum Kind {
     Destroy,
     /// `q`: close the cache.
     Close,
+    /// `v`: ask which program answers.
+    Version,
 }
 
 impl Kind {
@@ -37,6 +39,7 @@ impl Kind {
             b'c' => Some(Kind::Counters),
             b'x' => Some(Kind::Destroy),
             b'q' => Some(Kind::Close),
+            b'v' => Some(Kind::Version),
             _ => None,
         }
     }
@@ -54,6 +57,7 @@ impl Kind {
             Kind::Counters => b'c',
             Kind::Destroy => b'x',
             Kind::Close => b'q',
+            Kind::Version => b'v',
         }
     }
 
@@ -63,7 +67,7 @@ impl Kind {
     {
         match self {
             Kind::Put | Kind::Get | Kind::Delete | Kind::Contains => true,
-            Kind::Wait | Kind::Counters | Kind::Destroy | Kind::Close => false,
+            Kind::Wait | Kind::Counters | Kind::Destroy | Kind::Close | Kind::Version => false,
         }
     }
 

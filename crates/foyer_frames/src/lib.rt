@@ -5,11 +5,13 @@
 #![tactic(auto)]
 
 pub mod frames;
+pub mod greeting;
 pub mod kind;
 mod number;
-mod read;
+pub mod read;
 pub mod reply;
 pub mod request;
 #[cfg(test)]
 mod tests;
 mod window;
+pub mod write;

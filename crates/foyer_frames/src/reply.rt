@@ -1,13 +1,15 @@
 //! The frame of a reply.
-ghost use Rattle.std.specs.Prelude.{◌≡◌, ◌<◌, ◌≤◌, ◌^◌, ◌∷◌, ◌++◌, ℕ, List, length, IfOk, OnOk, Ok};
+ghost use Rattle.std.specs.Prelude.{◌≡◌, ◌<◌, ◌≤◌, ◌^◌, ◌∷◌, ◌++◌, ◌⊎◌, ℕ, List, length, IfErr, IfOk, OnOk, Ok};
 ghost use Rattle.std.specs.Io.KnownBytes.{Appends, Keeps};
+ghost use Rattle.std.specs.IoError.{error_kind};
+ghost use Rattle.std.specs.declared.io.ErrorKind.TheVariants.{InvalidInput};
 ghost use Rattle.foyer_frames.specs.Numbers.{Reads, number_bytes};
 ghost use Rattle.foyer_frames.specs.Reply.{Answer, Fits, IsReadAs, answer, reply_at, reply_bytes};
 
 use crate::number::number;
 use crate::request::Fault;
+use crate::write::FrameWriter;
 use std::io;
-use std::io::Write;
 
 /// The length of a reply's head in bytes: its number, its code, the length of its bytes.
 pub const REPLY_LEN: usize = 9;
@@ -74,20 +76,21 @@ impl<'a> Reply<'a> {
         read_reply(bytes, limit)
     }
 
-    /// Writes the reply's frame. Errors: `InvalidInput` if it has more than `u32::MAX` bytes. Then nothing is written. If the writer
-    /// fails, the error is the writer's, and it may have taken a part of the frame.
-    pub fn write_to<W: Write>(&self, output: &mut W) -> io::Result<()>
+    /// Writes the reply's frame. Errors: `InvalidInput` if it has more than `u32::MAX` bytes, and only then. Then nothing is written. If the
+    /// writer fails, the error is the writer's, and it may have taken a part of the frame.
+    pub fn write_to<W: FrameWriter>(&self, output: &mut W) -> io::Result<()>
         ensures written { OnOk result
             (Appends (W.contents output.old) (W.contents output.new) (reply_bytes (answer self.now))) }
         // A reply that is written is within the limit of `u32::MAX` bytes, so it can be read again.
         ensures fits { OnOk result (length (self.now.bytes).now < 2 ^ 32) }
         ensures unsent { 2 ^ 32 ≤ length (self.now.bytes).now → Keeps (W.contents output.old) (W.contents output.new) }
+        ensures refused { IfErr result (λ e. W.may_fail e ⊎ ((error_kind e ≡ InvalidInput) × (2 ^ 32 ≤ length (self.now.bytes).now))) }
     {
         if self.bytes.len() > u32::MAX as usize {
             return Err(io::Error::from(io::ErrorKind::InvalidInput));
         }
-        output.write_all(&reply_head(self.number, self.code, self.bytes.len() as u32))?;
-        output.write_all(self.bytes)
+        output.write_part(&reply_head(self.number, self.code, self.bytes.len() as u32))?;
+        output.write_part(self.bytes)
     }
 }
 

@@ -1,6 +1,8 @@
 //! The frame of a request.
-ghost use Rattle.std.specs.Prelude.{◌≡◌, ◌∷◌, ◌++◌, ℕ, List, IfOk, OnOk, Ok};
+ghost use Rattle.std.specs.Prelude.{◌≡◌, ◌∷◌, ◌++◌, ◌⊎◌, ℕ, List, IfErr, IfOk, OnOk, Ok};
 ghost use Rattle.std.specs.Io.KnownBytes.{Appends, Keeps};
+ghost use Rattle.std.specs.IoError.{error_kind};
+ghost use Rattle.std.specs.declared.io.ErrorKind.TheVariants.{InvalidInput};
 ghost use Rattle.foyer_frames.specs.Kind.{kind_byte};
 ghost use Rattle.foyer_frames.specs.Numbers.{Reads, number_bytes};
 ghost use Rattle.foyer_frames.specs.Request.{Asked, Fits, IsReadAs, IsSendable, asked, head_at, key_fault, key_limit, request_at, request_bytes, value_fault, value_limit};
@@ -8,8 +10,8 @@ ghost use Rattle.foyer_frames.specs.declared.request.Limits.{Limits};
 
 use crate::kind::Kind;
 use crate::number::number;
+use crate::write::FrameWriter;
 use std::io;
-use std::io::Write;
 
 /// The length of a request's head in bytes: its kind, its number, the lengths of its key and of its value.
 pub const HEAD_LEN: usize = 13;
@@ -197,14 +199,15 @@ impl<'a> Request<'a> {
     }
 
     /// Writes the request's frame. Errors: `InvalidInput` if a key or a value has more than `u32::MAX` bytes, or has any bytes although
-    /// the kind has none. Then nothing is written. If the writer fails, the error is the writer's, and it may have taken a part of the
-    /// frame.
-    pub fn write_to<W: Write>(&self, output: &mut W) -> io::Result<()>
+    /// the kind has none, and only then. Then nothing is written. If the writer fails, the error is the writer's, and it may have taken a
+    /// part of the frame.
+    pub fn write_to<W: FrameWriter>(&self, output: &mut W) -> io::Result<()>
         ensures written { OnOk result
             (Appends (W.contents output.old) (W.contents output.new) (request_bytes (asked self.now))) }
         // A request that is written is within the widest limits, so it can be read again.
         ensures fits { OnOk result (IsSendable (asked self.now)) }
         ensures unsent { ¬ IsSendable (asked self.now) → Keeps (W.contents output.old) (W.contents output.new) }
+        ensures refused { IfErr result (λ e. W.may_fail e ⊎ ((error_kind e ≡ InvalidInput) × (¬ IsSendable (asked self.now)))) }
     {
         let widest = Limits::WIDEST;
         if self.key.len() > widest.key_of(self.kind) as usize
@@ -214,9 +217,9 @@ impl<'a> Request<'a> {
         }
         let keys = self.key.len() as u32;
         let values = self.value.len() as u32;
-        output.write_all(&request_head(self.kind, self.number, keys, values))?;
-        output.write_all(self.key)?;
-        output.write_all(self.value)
+        output.write_part(&request_head(self.kind, self.number, keys, values))?;
+        output.write_part(self.key)?;
+        output.write_part(self.value)
     }
 }
 

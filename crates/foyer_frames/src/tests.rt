@@ -1,5 +1,6 @@
 //! Tests of streams that are read in pieces and with errors, and of frames whose bytes were worked out by hand.
 use crate::frames::{Filled, Frames, Next, Taken};
+use crate::greeting::greeting_bytes;
 use crate::kind::Kind;
 use crate::reply::{self, Reply};
 use crate::request::{self, Fault, Head, Limits, Request};
@@ -162,6 +163,8 @@ fn streams_in_pieces(rt: HostRuntime) {
             b"w\x01\0\0\0\0\0\0\0\0\0\0\0c\x02\0\0\0\0\0\0\0\0\0\0\0x\x03\0\0\0\0\0\0\0\0\0\0\0",
             "Wait 1 =, Counters 2 =, Destroy 3 =, end",
         ),
+        (b"v\x01\0\0\0\0\0\0\0\0\0\0\0", "Version 1 =, end"),
+        (b"v\0\0\0\0\0\0\0\0\x01\0\0\0a", "UnwantedValue"),
         (b"p", "cut"),
         (
             b"w\0\0\0\0\0\0\0\0\0\0\0\0p\x02\x01\0\0\x02\0\0\0\x03\0\0\0abxy",
@@ -300,5 +303,19 @@ fn a_reply_of_more_than_two_bytes_of_length_is_sent(rt: HostRuntime) -> Result<(
     let mut output = Vec::new(rt.alloc());
     reply.write_to(&mut output).ok().ok_or("memory")?;
     assert_eq!(rt; output.len(), 65_545);
+    Ok(())
+}
+
+#[test]
+fn a_greeting_as_bytes(rt: HostRuntime) -> Result<(), Fail> {
+    let limits = Limits {
+        key: 65_536,
+        value: 258,
+    };
+    let bytes = greeting_bytes(rt.alloc(), &limits, "0.1.0, kit")
+        .ok()
+        .ok_or("memory")?;
+    let want = b"foyerpipe\n\x01\0\0\0\0\0\x01\0\x02\x01\0\x000.1.0, kit".as_slice();
+    assert!(rt; bytes.as_slice() == want);
     Ok(())
 }

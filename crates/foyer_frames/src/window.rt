@@ -1,14 +1,13 @@
 // The bytes that were read of a stream of requests, in one buffer that is used again.
-ghost use Rattle.std.specs.Prelude.{◌≡◌, ◌+◌, ◌<◌, ◌≤◌, ℕ, List, [], ◌++◌, length, max, take, vec_len, IfOk, OnOk, OnErr, Err, IsTrue, ◌↔◌};
+ghost use Rattle.std.specs.Prelude.{◌≡◌, ◌+◌, ◌<◌, ◌≤◌, ℕ, List, [], ◌++◌, length, max, take, vec_len, IfErr, IfOk, OnOk, OnErr, Err, IsTrue, ◌↔◌};
 ghost use Rattle.std.specs.Io.KnownBytes.{Consumes, IsAtEnd, Keeps};
 ghost use Rattle.foyer_frames.specs.declared.request.Fault.TheVariants.{Short};
 ghost use Rattle.foyer_frames.specs.Request.{request_at};
 
-use crate::read::read_some;
+use crate::read::{FrameReader, read_some};
 use crate::request::{Fault, HEAD_LEN, Head, Limits};
 use std::alloc::{AllocError, Allocator};
 use std::io;
-use std::io::Read;
 
 // The buffer's first length in bytes.
 const FIRST_LEN: usize = 64 * 1024;
@@ -191,11 +190,12 @@ impl<A: Allocator> Window<A> {
     }
 
     // Does one read into the room after what is held, and does it again if it was interrupted.
-    pub(crate) fn read_from<R: Read>(&mut self, input: &mut R) -> io::Result<usize>
+    pub(crate) fn read_from<R: FrameReader>(&mut self, input: &mut R) -> io::Result<usize>
         ensures ok { IfOk result (λ n. (more : List ℕ) × (length more ≡ n) × (held self.new ≡ held self.old ++ more)
             × Consumes (R.remaining input.old) (R.remaining input.new) more) }
         ensures end { IfOk result (λ n. n ≡ 0 → self.old.end < vec_len self.old.bytes → IsAtEnd (R.remaining input.new)) }
         ensures err { OnErr result ((held self.new ≡ held self.old) × Keeps (R.remaining input.old) (R.remaining input.new)) }
+        ensures own { IfErr result R.may_fail }
         ensures limits { self.new.limits ≡ self.old.limits }
     {
         let end = self.end;

@@ -77,8 +77,12 @@ impl<E: IoEngine + Drop, A: Allocator> IoEngine for MonitoredIoEngine<E, A> {
         ensures recorded { DidRecordRead self.old.recorder (length (B.bytes buffer)) self.new.recorder }
     {
         let bytes = buffer.as_slice().len();
+        let failures = self.inner.failures();
         let handle = self.inner.read(buffer, partition, offset);
         self.recorder.record_disk_read(bytes);
+        if self.inner.failures() != failures {
+            self.recorder.note_read_error(self.inner.last_error());
+        }
         handle
     }
 
@@ -109,12 +113,20 @@ impl<E: IoEngine + Drop, A: Allocator> IoEngine for MonitoredIoEngine<E, A> {
         ensures recorded { DidRecordWrite self.old.recorder (length (B.bytes buffer)) self.new.recorder }
     {
         let bytes = buffer.as_slice().len();
+        let failures = self.inner.failures();
         let handle = self.inner.write(buffer, partition, offset);
         self.recorder.record_disk_write(bytes);
+        if self.inner.failures() != failures {
+            self.recorder.note_write_error(self.inner.last_error());
+        }
         handle
     }
 
     fn failures(&self) -> u64 {
         self.inner.failures()
+    }
+
+    fn last_error(&self) -> i32 {
+        self.inner.last_error()
     }
 }

@@ -3,7 +3,6 @@ use Rattle.std.proofs.Common.{◌≡◌, ℕ, ◌+◌, ◌<◌, ◌==◌, ◌||�
 use Rattle.std.specs.Prelude.{IfOk, vec_len}
 use Rattle.std.specs.declared.vec.Vec.{Vec}
 use Rattle.foyer_device_page.specs.declared.error.Error.{Error}
-use Rattle.foyer_format_layout.specs.Page.{page_up}
 use Rattle.foyer_core_chronicle.specs.Rights.{times}
 use Rattle.foyer_core_chronicle.specs.SharedHistory.{joined, GoesOnWith, MayCome}
 use Rattle.foyer_core_chronicle.specs.declared.View.{View}
@@ -51,7 +50,7 @@ module _ {K V P A D : Type 0} (m : Meaning K V P) (byte_at : D → ℕ → ℕ �
     scan_tells u e b outcome is = absurd is
 
     read_happens : (u : World Content) (n : ℕ) (ticket : Ticket) (promise : Option (Event Content)) (outcome : Result (Vec ℕ A) Error) (bytes : ℕ → ℕ → ℕ) → HasLoad u n (ticket_of ticket) promise ReadIssued → u.bytes ≡ bytes
-        → IfOk outcome (λ b. disk.IsRead bytes ticket.address.block ticket.address.offset b.items) → IfOk outcome (λ b. vec_len b ≡ page_up ticket.address.len)
+        → IfOk outcome (λ b. disk.IsRead bytes ticket.address.block ticket.address.offset b.items) → IfOk outcome (λ b. vec_len b ≡ ticket.address.len)
         → MayAllHappen (machine m s sound) (layout s) (IsEncoded m.is_key m.is_value) u (events_in (deeds.ReadsAt n (came_of outcome)))
     read_happens u n ticket promise (Ok b) bytes h same read len =
         (serving.reads (machine m s sound) (layout s) (IsEncoded m.is_key m.is_value) u n (ticket_of ticket) promise b.items h (omega (arith, len, b.ok))
@@ -87,7 +86,7 @@ module _ {K V P A D : Type 0} (m : Meaning K V P) (byte_at : D → ℕ → ℕ �
 
   pub read_may : (own mine : View (Told K V P A D)) (now : D) (e : Told K V P A D) (n : ℕ) (ticket : Ticket) (outcome : Result (Vec ℕ A) Error) → 0 < times disk_right own.has
       → LiesAt m byte_at own.seen now → 0 < times (ticket_right n) mine.has → HasTicket m byte_at mine.seen n ticket ReadIssued → IsReadOf e n outcome
-      → IfOk outcome (λ b. disk.IsRead (byte_at now) ticket.address.block ticket.address.offset b.items) → IfOk outcome (λ b. vec_len b ≡ page_up ticket.address.len)
+      → IfOk outcome (λ b. disk.IsRead (byte_at now) ticket.address.block ticket.address.offset b.items) → IfOk outcome (λ b. vec_len b ≡ ticket.address.len)
       → MayCome (IsTold m byte_at) takes (joined own mine) e
   read_may own mine now e n ticket outcome right at has knows event read len log legal fits =
       let lies : LiesAt m byte_at log now = disk_on m byte_at log own.seen own.has now right at fits.0 in

@@ -10,6 +10,7 @@ use foyer_block_index::indexer::Indexer;
 use foyer_block_index::manager::BlockId;
 use foyer_cli::faults::{name_of, print_fault};
 use foyer_cli::options::{Options, ask_version, print_version};
+use foyer_cli::words::{BadWord, ask_help, print_help, sizes_of};
 use foyer_core_settings::settings::Settings;
 use foyer_device_page::error::{Error, ErrorKind};
 use foyer_io_disk::disk::Disk;
@@ -31,6 +32,12 @@ const STATUS_OK: u8 = 0;
 const STATUS_FAULT: u8 = 1;
 
 const STATUS_USAGE: u8 = 2;
+
+// Printed after the usage by `--help`.
+const HELP: &str = "\
+DIR is the directory of a cache without a log of deletes, or one of its core-N. CAPACITY and BLOCK are the bytes that it was made with.
+It prints a line for each entry. No file is changed.
+";
 
 // Why a list ended early.
 #[derive(Clone, Copy, Debug)]
@@ -82,9 +89,16 @@ where
     if ask_version(words) {
         return print_version(output, "foyerlist");
     }
-    let Some(options) = options_of(words) else {
-        let _ = errors.write_all(USAGE.as_bytes());
-        return STATUS_USAGE;
+    if ask_help(words) {
+        return print_help(output, USAGE, HELP);
+    }
+    let options = match options_of(words) {
+        Ok(options) => options,
+        Err(bad) => {
+            let _ = bad.print(&mut errors, "foyerlist");
+            let _ = errors.write_all(USAGE.as_bytes());
+            return STATUS_USAGE;
+        }
     };
     // `Config` is found before anything is opened.
     let settings = match options.settings() {
@@ -101,13 +115,24 @@ where
     print_list(&alloc, &mut files, &settings, output)
 }
 
-// The words' meaning, unless they are bad.
-fn options_of<'a, B: Allocator>(words: &'a [String<B>]) -> Option<Options<'a>> {
-    let options = Options::parse(words)?;
-    if options.is_memory() {
-        return None;
+// The words' meaning, or which of them is bad.
+fn options_of<'a, B: Allocator>(
+    words: &'a [String<B>],
+) -> std::result::Result<Options<'a>, BadWord<'a>> {
+    let options = sizes_of(words)?;
+    if let Some(word) = words.get(3) {
+        return Err(BadWord {
+            what: "one word too many: ",
+            word: word.as_str(),
+        });
     }
-    Some(options)
+    if options.is_memory() {
+        return Err(BadWord {
+            what: "no directory: ",
+            word: options.directory,
+        });
+    }
+    Ok(options)
 }
 
 fn print_refusal<W: Write>(output: &mut W, kind: ErrorKind) -> u8 {

@@ -3,6 +3,7 @@ use Rattle.std.specs.Prelude.{ℕ, Bool, true, false, List, [], Result, Ok, Err}
 use Rattle.std.specs.Global.{Vec}
 use Rattle.foyer_device_page.specs.Error.{kind_of}
 use Rattle.foyer_device_page.specs.declared.error.Error.{Error}
+use Rattle.foyer_device_page.specs.declared.error.Error.TheVariants as error
 use Rattle.foyer_device_page.specs.declared.error.ErrorKind.{ErrorKind}
 use Rattle.foyer_device_page.specs.declared.error.ErrorKind.TheVariants as kind
 use Rattle.foyer_frames.specs.declared.request.Fault.{Fault}
@@ -48,6 +49,12 @@ put_code (Err e) = error_code (kind_of e)
 abbrev pub done_code : Result (Unit {0}) Error → ℕ
 done_code (Ok done) = 0
 done_code (Err e) = error_code (kind_of e)
+
+-- a wait or a close that is done, but puts that were answered before were abandoned: an I/O error
+abbrev pub done_unless_abandoned : Result (Unit {0}) Error → Bool → Result (Unit {0}) Error
+done_unless_abandoned (Ok done) true = Err error.Io
+done_unless_abandoned (Ok done) false = Ok done
+done_unless_abandoned (Err e) is_abandoned = Err e
 
 -- the code of the answer to a question: yes or no
 abbrev pub whether_code : Result Bool Error → ℕ

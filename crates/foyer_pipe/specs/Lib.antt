@@ -1,2 +1,4 @@
 pub mod Keys
 pub mod Codes
+pub mod Answered
+pub mod Settings

@@ -1,28 +1,37 @@
 //! The answers to requests, by a store.
-ghost use Rattle.std.specs.Prelude.{◌≡◌, ◌⊎◌, Bool, Result, IfOk};
+ghost use Rattle.std.specs.Prelude.{◌≡◌, ◌⊎◌, Bool, Result, IfErr, IfOk};
 ghost use Rattle.std.specs.Arc.{arc_value};
 ghost use Rattle.foyer_device_page.specs.declared.error.Error.{Error};
 ghost use Rattle.foyer_frames.specs.declared.kind.Kind.TheVariants as kind;
 ghost use Rattle.foyer_format_checksum.specs.Xxh64.{xxh64};
+ghost use Rattle.foyer_pipe.specs.Answered.{number_of};
+ghost use Rattle.foyer_pipe.specs.Codes.{done_unless_abandoned};
 ghost use Rattle.foyer_pipe.specs.Keys.{seeded_key};
-ghost use Rattle.foyer_pipe.specs.Codes.{done_code, get_bytes, get_code, put_code, whether_code};
 
-use crate::codes::{DELETED, DONE, ENTRY, IGNORED, MISS, NO, THROTTLED, YES, error_code};
-use crate::readers::{Get, Gets};
-use crate::replies::Replies;
+use crate::coded::{Coded, done_unless_abandoned};
+use crate::readers::{Get, Gets, Left};
+use crate::replies::{Replied, Replies};
+use foyer_cli::options::VERSION;
 use foyer_device_page::error::Result;
 use foyer_format_checksum::Checksummer;
 use foyer_format_record::serde::{HashBuilder, NoProperties};
+use foyer_frames::greeting::greeting_bytes;
 use foyer_frames::kind::Kind;
+use foyer_frames::request::Limits;
 use foyer_storage_cores_run::build::config::Engine;
-use foyer_storage_cores_run::build::counters::StoreCounters;
+use foyer_storage_cores_run::build::counters::{AbandonedPuts, StoreCounters};
 use foyer_storage_cores_run::build::engine::engine::Enqueued;
-use foyer_storage_cores_run::build::engine::load::Load;
 use foyer_storage_cores_run::build::store::Store;
+use foyer_storage_cores_run::build::threads::workers::Clock;
 use std::alloc::Global;
 use std::fmt::Write as _;
 use std::io::Write;
 use std::sync::Wait;
+use std::thread;
+use std::time::Duration;
+
+// How long a put that waits for room sleeps before it looks again, in microseconds.
+const PAUSE: u64 = 200;
 
 /// A key, or a value.
 pub(crate) type Bytes = Vec<u8, Global>;
@@ -42,94 +51,6 @@ impl HashBuilder<Bytes> for BytesHashBuilder {
 /// The store that the program uses.
 pub(crate) type Cache<N> = Store<N, Bytes, Bytes, NoProperties, BytesHashBuilder>;
 
-// The code of the answer to a put.
-fn put_code(put: &Result<Enqueued>) -> u8
-    ensures { result ≡ put_code put.now }
-{
-    match put {
-        Ok(Enqueued::Queued) => DONE,
-        Ok(Enqueued::Ignored) => IGNORED,
-        Ok(Enqueued::Deleted) => DELETED,
-        Err(error) => error_code(error.kind()),
-    }
-}
-
-// The code of the answer to a delete, a wait, a destroy or a close.
-fn done_code(done: &Result<()>) -> u8
-    ensures { result ≡ done_code done.now }
-{
-    match done {
-        Ok(()) => DONE,
-        Err(error) => error_code(error.kind()),
-    }
-}
-
-// The code of the answer to the question whether the cache has a key's hash.
-fn whether_code(has: &Result<bool>) -> u8
-    ensures { result ≡ whether_code has.now }
-{
-    match has {
-        Ok(true) => YES,
-        Ok(false) => NO,
-        Err(error) => error_code(error.kind()),
-    }
-}
-
-// An answer as a reply has it.
-#[derive(Drop)]
-struct Coded<'a> {
-    code: u8,
-    bytes: &'a [u8],
-}
-
-// The answer to a get, as a reply has it.
-fn encode_load(got: &Result<Load<Bytes, Bytes, NoProperties, Global>>) -> Coded<'_>
-    ensures code { result.code ≡ get_code got.now }
-    ensures bytes { result.bytes.now ≡ get_bytes got.now }
-{
-    match got {
-        Ok(Load::Entry { value, .. }) => Coded {
-            code: ENTRY,
-            bytes: value.as_slice(),
-        },
-        Ok(Load::Piece { piece, .. }) => Coded {
-            code: ENTRY,
-            bytes: piece.value().as_slice(),
-        },
-        Ok(Load::Miss) => Coded {
-            code: MISS,
-            bytes: &[],
-        },
-        Ok(Load::Throttled) => Coded {
-            code: THROTTLED,
-            bytes: &[],
-        },
-        Err(error) => Coded {
-            code: error_code(error.kind()),
-            bytes: &[],
-        },
-    }
-}
-
-fn reply_done<O: Write + Drop>(
-    rt: &impl Wait,
-    replies: &Replies<O>,
-    number: u32,
-    done: Result<()>,
-) {
-    replies.write(rt, number, done_code(&done), &[]);
-}
-
-fn reply_get<O: Write + Drop>(
-    rt: &impl Wait,
-    replies: &Replies<O>,
-    number: u32,
-    got: Result<Load<Bytes, Bytes, NoProperties, Global>>,
-) {
-    let coded = encode_load(&got);
-    replies.write(rt, number, coded.code, coded.bytes);
-}
-
 fn bytes_of(alloc: Global, bytes: &[u8]) -> Result<Bytes>
     ensures { IfOk result (λ kept. kept.items ≡ bytes.now) }
 {
@@ -148,6 +69,50 @@ fn key_of(alloc: Global, seed: u64, key: &[u8]) -> Result<Bytes>
     Ok(kept)
 }
 
+/// What answers a request: a reply was written, or a get was left to another thread, which writes it.
+#[derive(Clone, Copy)]
+pub(crate) enum Answered {
+    Replied(Replied),
+    Left(Left),
+}
+
+/// How long a put waits for room in the queue, and by which clock.
+#[derive(Drop)]
+pub(crate) struct Patience<'a, C: Clock> {
+    pub(crate) clock: &'a C,
+    /// For how many nanoseconds at most. With 0 it doesn't look.
+    pub(crate) most: u64,
+}
+
+// Waits until a put of this key would find room in the queue, or so long as it may. What was replied before is written out first.
+fn wait_for_room<R, S, N, C, O>(
+    rt: &R,
+    cache: &Cache<N>,
+    key: &Bytes,
+    patience: &Patience<'_, C>,
+    replies: &Replies<O>,
+)
+where
+    R: Wait + std::rt::Clock,
+    S: Drop,
+    N: Engine<S, Bytes, Bytes, NoProperties>,
+    C: Clock,
+    O: Write + Drop,
+{
+    if patience.most == 0 || cache.has_room::<S>(rt, key) {
+        return;
+    }
+    let _ = replies.flush(rt);
+    let until = patience.clock.now().saturating_add(patience.most);
+    for _ in rt.forever() {
+        thread::sleep(rt, Duration::from_micros(PAUSE));
+        if cache.has_room::<S>(rt, key) || patience.clock.now() >= until {
+            return;
+        }
+    }
+}
+
+// Puts a value under a key. If it isn't taken, the key is deleted at once, with what is queued of it.
 fn put<S: Drop, N: Engine<S, Bytes, Bytes, NoProperties>>(
     rt: &impl Wait,
     alloc: Global,
@@ -158,7 +123,12 @@ fn put<S: Drop, N: Engine<S, Bytes, Bytes, NoProperties>>(
     now: u64,
 ) -> Result<Enqueued> {
     let value = bytes_of(alloc, value)?;
-    cache.put(rt, alloc, session, key, value, NoProperties, now)
+    let piece = cache.piece(alloc, key, value, NoProperties)?;
+    let enqueued = cache.enqueue(rt, session, &piece, false, now)?;
+    if let Enqueued::Deleted = enqueued {
+        cache.remove(rt, session, piece.key())?;
+    }
+    Ok(enqueued)
 }
 
 /// Answers a get at the moment `now`.
@@ -169,9 +139,11 @@ pub(crate) fn answer_get<S: Drop, N: Engine<S, Bytes, Bytes, NoProperties>, O: W
     get: &Get,
     now: u64,
     replies: &Replies<O>,
-) {
+) -> Replied
+    ensures { result.number ≡ get.now.number }
+{
     let got = cache.load(rt, session, &get.key, now);
-    reply_get(rt, replies, get.number, got);
+    replies.write(rt, get.number, Coded::of_load(&got))
 }
 
 // Leaves a get to a thread that answers gets. If none runs, too many gets wait, or memory is refused, answers it here.
@@ -183,12 +155,15 @@ fn answer_or_leave<S: Drop, N: Engine<S, Bytes, Bytes, NoProperties>, O: Write +
     get: Get,
     now: u64,
     replies: &Replies<O>,
-) {
+) -> Answered
+    ensures { number_of result ≡ get.number }
+{
     if !gets.has_readers() {
-        return answer_get(rt, cache, session, &get, now, replies);
+        return Answered::Replied(answer_get(rt, cache, session, &get, now, replies));
     }
-    if let Err(get) = gets.offer(rt, get) {
-        answer_get(rt, cache, session, &get, now, replies);
+    match gets.offer(rt, get) {
+        Ok(left) => Answered::Left(left),
+        Err(get) => Answered::Replied(answer_get(rt, cache, session, &get, now, replies)),
     }
 }
 
@@ -203,8 +178,13 @@ fn counter(name: &'static str, count: u64) -> Counted {
     Counted { name, count }
 }
 
+// The number, or 0 if it is negative.
+fn positive(number: i32) -> u64 {
+    u64::try_from(number).unwrap_or(0)
+}
+
 // The counters of the device and of the cache's threads.
-fn work_of(c: &StoreCounters) -> [Counted; 9] {
+fn work_of(c: &StoreCounters) -> [Counted; 13] {
     [
         counter("disk_write_bytes", c.disk_write_bytes),
         counter("disk_read_bytes", c.disk_read_bytes),
@@ -215,6 +195,10 @@ fn work_of(c: &StoreCounters) -> [Counted; 9] {
         counter("reclaims", c.reclaims),
         counter("reinsertions", c.reinsertions),
         counter("failed_appends", c.failed_appends),
+        counter("abandoned_by_writes", c.abandoned_by_writes),
+        counter("abandoned_by_memory", c.abandoned_by_memory),
+        counter("last_write_error", positive(c.last_write_error)),
+        counter("last_read_error", positive(c.last_read_error)),
     ]
 }
 
@@ -256,10 +240,28 @@ fn reply_counters<O: Write + Drop>(
     alloc: Global,
     number: u32,
     counters: &StoreCounters,
-) {
+) -> Replied
+    ensures { result.number ≡ number }
+{
     match text_of(alloc, counters) {
-        Ok(text) => replies.write(rt, number, DONE, text.as_bytes()),
-        Err(error) => replies.write_error(rt, number, error),
+        Ok(text) => replies.write(rt, number, Coded::of_bytes(text.as_bytes())),
+        Err(error) => replies.write(rt, number, Coded::of_error(error)),
+    }
+}
+
+/// Answers a request for the version: what program this is, and what it takes in a frame.
+pub(crate) fn reply_version<O: Write + Drop>(
+    rt: &impl Wait,
+    replies: &Replies<O>,
+    alloc: Global,
+    number: u32,
+    limits: &Limits,
+) -> Replied
+    ensures { result.number ≡ number }
+{
+    match greeting_bytes(alloc, limits, VERSION.trim()) {
+        Ok(bytes) => replies.write(rt, number, Coded::of_bytes(&bytes)),
+        Err(error) => replies.write(rt, number, Coded::of_error(error.into())),
     }
 }
 
@@ -272,73 +274,167 @@ pub(crate) struct Asked<'a> {
     pub(crate) value: &'a [u8],
 }
 
-// Answers a request that has a key, at the moment `now`, or leaves a get to a thread that answers gets.
-fn answer_keyed<S: Drop, N: Engine<S, Bytes, Bytes, NoProperties>, O: Write + Drop>(
-    rt: &impl Wait,
+// Answers a request that has a key, or leaves a get to a thread that answers gets. A delete takes what is queued of its key away, too.
+fn answer_keyed<R, S, N, C, O>(
+    rt: &R,
     alloc: Global,
     cache: &Cache<N>,
     session: &mut S,
     gets: &Gets,
     asked: Asked<'_>,
     key: Bytes,
-    now: u64,
+    patience: &Patience<'_, C>,
     replies: &Replies<O>,
-)
+) -> Answered
+where
+    R: Wait + std::rt::Clock,
+    S: Drop,
+    N: Engine<S, Bytes, Bytes, NoProperties>,
+    C: Clock,
+    O: Write + Drop,
     ensures deletes { asked.entry.kind ≡ kind.Delete → (deleted : Result (Unit {0}) Error)
         × N.may_delete (arc_value cache.now.shared).engine session.old session.new (xxh64 key.items) deleted }
     ensures asks { asked.entry.kind ≡ kind.Contains → (session.new ≡ session.old)
         ⊎ ((has : Result Bool Error) × N.may_ask (arc_value cache.now.shared).engine session.old session.new (xxh64 key.items) has) }
+    ensures number { number_of result ≡ asked.entry.number }
 {
     let number = asked.number;
     match asked.kind {
         Kind::Put => {
+            wait_for_room::<R, S, N, C, O>(rt, cache, &key, patience, replies);
+            let now = patience.clock.now();
             let put = put(rt, alloc, cache, session, key, asked.value, now);
-            replies.write(rt, number, put_code(&put), &[]);
+            Answered::Replied(replies.write(rt, number, Coded::of_put(&put)))
         }
         Kind::Delete => {
-            let deleted = cache.delete(rt, session, &key);
-            reply_done(rt, replies, number, deleted);
+            let deleted = cache.remove(rt, session, &key);
+            Answered::Replied(replies.write(rt, number, Coded::of_done(&deleted)))
         }
         Kind::Contains => {
             let has = cache.may_contains(rt, session, &key);
-            replies.write(rt, number, whether_code(&has), &[]);
+            Answered::Replied(replies.write(rt, number, Coded::of_whether(&has)))
         }
         _ => {
             let get = Get { number, key };
-            answer_or_leave(rt, cache, session, gets, get, now, replies);
+            let now = patience.clock.now();
+            answer_or_leave(rt, cache, session, gets, get, now, replies)
         }
     }
 }
 
-/// Answers a request at the moment `now`, or leaves a get to a thread that answers gets. The store gets each key after the bytes of the
-/// seed, or alone if the seed is 0.
-pub(crate) fn answer<S: Drop, N: Engine<S, Bytes, Bytes, NoProperties>, O: Write + Drop>(
+/// Whether puts were abandoned since the moment at which this caller was told last, which is now.
+pub(crate) fn notice_abandoned<S: Drop, N: Engine<S, Bytes, Bytes, NoProperties>>(
+    cache: &Cache<N>,
+    noticed: &mut AbandonedPuts,
+) -> bool {
+    let abandoned = cache.abandoned::<S>();
+    let since = abandoned.since(&*noticed);
+    *noticed = abandoned;
+    !since.is_none()
+}
+
+// Waits until what was put is written or given up. `Io` if puts were abandoned since this caller was told last.
+fn wait<S: Drop, N: Engine<S, Bytes, Bytes, NoProperties>>(
     rt: &impl Wait,
-    alloc: Global,
     cache: &Cache<N>,
     session: &mut S,
-    gets: &Gets,
-    seed: u64,
+    noticed: &mut AbandonedPuts,
+) -> Result<()>
+    ensures { (waited : Result (Unit {0}) Error) × N.may_wait (arc_value cache.now.shared).engine session.old session.new waited
+        × (abandoned : Bool) × (result ≡ done_unless_abandoned waited abandoned) }
+{
+    let waited = cache.wait(rt, session);
+    let is_abandoned = waited.is_ok() && notice_abandoned::<S, N>(cache, noticed);
+    done_unless_abandoned(waited, is_abandoned)
+}
+
+/// Closes the cache. `Io` if puts were abandoned since this caller was told last.
+pub(crate) fn close<S: Drop, N: Engine<S, Bytes, Bytes, NoProperties>>(
+    rt: &impl Wait,
+    cache: &Cache<N>,
+    session: &mut S,
+    noticed: &mut AbandonedPuts,
+) -> Result<()>
+    ensures { (closed : Result (Unit {0}) Error) × N.may_close (arc_value cache.now.shared).engine session.old session.new closed
+        × (abandoned : Bool) × (result ≡ done_unless_abandoned closed abandoned) }
+{
+    let closed = cache.close(rt, session);
+    let is_abandoned = closed.is_ok() && notice_abandoned::<S, N>(cache, noticed);
+    done_unless_abandoned(closed, is_abandoned)
+}
+
+/// What a caller's requests are answered with, besides the cache.
+#[derive(Drop)]
+pub(crate) struct Answering<'a, C: Clock> {
+    pub(crate) alloc: Global,
+    pub(crate) gets: &'a Gets,
+    /// A number that each key is prefixed with, or 0.
+    pub(crate) seed: u64,
+    /// The most bytes of a key and of a value in a frame.
+    pub(crate) limits: Limits,
+    pub(crate) patience: Patience<'a, C>,
+}
+
+/// Answers a request, or leaves a get to a thread that answers gets. The store gets each key after the bytes of the seed, or alone if the
+/// seed is 0.
+pub(crate) fn answer<R, S, N, C, O>(
+    rt: &R,
+    cache: &Cache<N>,
+    session: &mut S,
+    answering: &Answering<'_, C>,
     asked: Asked<'_>,
-    now: u64,
+    noticed: &mut AbandonedPuts,
     replies: &Replies<O>,
-) {
+) -> Answered
+where
+    R: Wait + std::rt::Clock,
+    S: Drop,
+    N: Engine<S, Bytes, Bytes, NoProperties>,
+    C: Clock,
+    O: Write + Drop,
+    ensures { number_of result ≡ asked.entry.number }
+{
     let number = asked.number;
+    let alloc = answering.alloc;
     match asked.kind {
-        Kind::Put | Kind::Get | Kind::Delete | Kind::Contains => match key_of(
-            alloc, seed, asked.key,
-        ) {
-            Ok(key) => {
-                answer_keyed(rt, alloc, cache, session, gets, asked, key, now, replies);
+        Kind::Put | Kind::Get | Kind::Delete | Kind::Contains => {
+            match key_of(alloc, answering.seed, asked.key) {
+                Ok(key) => answer_keyed::<R, S, N, C, O>(
+                    rt,
+                    alloc,
+                    cache,
+                    session,
+                    answering.gets,
+                    asked,
+                    key,
+                    &answering.patience,
+                    replies,
+                ),
+                Err(error) => Answered::Replied(replies.write(rt, number, Coded::of_error(error))),
             }
-            Err(error) => replies.write_error(rt, number, error),
-        },
-        Kind::Wait => reply_done(rt, replies, number, cache.wait(rt, session)),
-        Kind::Counters => {
-            let counters = cache.counters::<S>(rt, now);
-            reply_counters(rt, replies, alloc, number, &counters);
         }
-        Kind::Destroy => reply_done(rt, replies, number, cache.destroy(rt, session)),
-        Kind::Close => reply_done(rt, replies, number, cache.close(rt, session)),
+        Kind::Wait => {
+            let waited = wait(rt, cache, session, noticed);
+            Answered::Replied(replies.write(rt, number, Coded::of_done(&waited)))
+        }
+        Kind::Counters => {
+            let counters = cache.counters::<S>(rt, answering.patience.clock.now());
+            Answered::Replied(reply_counters(rt, replies, alloc, number, &counters))
+        }
+        Kind::Destroy => {
+            let destroyed = cache.destroy(rt, session);
+            Answered::Replied(replies.write(rt, number, Coded::of_done(&destroyed)))
+        }
+        Kind::Close => {
+            let closed = close(rt, cache, session, noticed);
+            Answered::Replied(replies.write(rt, number, Coded::of_done(&closed)))
+        }
+        Kind::Version => Answered::Replied(reply_version(
+            rt,
+            replies,
+            alloc,
+            number,
+            &answering.limits,
+        )),
     }
 }

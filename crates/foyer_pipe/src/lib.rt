@@ -2,6 +2,7 @@
 #![tactic(auto)]
 
 mod answers;
+mod coded;
 pub mod codes;
 pub mod options;
 mod readers;

@@ -1,4 +1,6 @@
 //! Threads that answer gets, while another thread reads more requests.
+ghost use Rattle.std.specs.Prelude.{◌≡◌, IfErr, IfOk};
+
 use crate::answers::{Bytes, Cache, answer_get};
 use crate::replies::Replies;
 use foyer_format_record::serde::NoProperties;
@@ -13,6 +15,12 @@ use std::sync::{Condvar, Mutex, Wait};
 
 // How many gets may wait for each thread.
 const WAITING_FOR_EACH: usize = 16;
+
+/// Shows that the get of this number was left to a thread that answers gets. Only `Gets::offer` makes one.
+#[derive(Clone, Copy)]
+pub(crate) struct Left {
+    number: u32,
+}
 
 /// A get that waits for a thread: its request's number, and its key.
 #[derive(Drop)]
@@ -39,7 +47,9 @@ impl Drop for Queue {
 
 impl Queue {
     // Adds a get. Returns the get if `most` gets wait already, or memory is refused.
-    fn add(&mut self, get: Get, most: usize) -> std::result::Result<(), Get> {
+    fn add(&mut self, get: Get, most: usize) -> std::result::Result<(), Get>
+        ensures { IfErr result (λ back. back ≡ get) }
+    {
         if self.waiting.len() >= most || self.waiting.reserve(1).is_err() {
             return Err(get);
         }
@@ -92,12 +102,16 @@ impl Gets {
     }
 
     /// Leaves a get to a thread. Returns the get if too many wait already, or memory is refused.
-    pub(crate) fn offer(&self, rt: &impl Wait, get: Get) -> std::result::Result<(), Get> {
+    pub(crate) fn offer(&self, rt: &impl Wait, get: Get) -> std::result::Result<Left, Get>
+        ensures left { IfOk result (λ left. left.number ≡ get.number) }
+        ensures back { IfErr result (λ back. back ≡ get) }
+    {
+        let number = get.number;
         let readers = self.readers.load(Ordering::Relaxed);
         let most = readers.saturating_mul(WAITING_FOR_EACH);
         lock_spinning(&self.queue, rt).add(get, most)?;
         self.changed.notify_one();
-        Ok(())
+        Ok(Left { number })
     }
 
     // Waits for a get, and takes the one that has waited longest. None once the queue is closed and empty.
@@ -143,7 +157,7 @@ where
             return;
         };
         let now = clock.now();
-        answer_get(rt, cache, session, &get, now, replies);
+        let _ = answer_get(rt, cache, session, &get, now, replies);
         if gets.is_empty(rt) {
             let _ = replies.flush(rt);
         }

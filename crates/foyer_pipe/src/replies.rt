@@ -3,14 +3,20 @@ ghost use Rattle.std.specs.Prelude.{◌≡◌, OnOk};
 ghost use Rattle.std.specs.Io.KnownBytes.{Appends};
 ghost use Rattle.foyer_frames.specs.Reply.{reply_bytes};
 
-use crate::codes::error_code;
-use foyer_device_page::error::Error;
+use crate::coded::Coded;
 use foyer_frames::reply::Reply;
 use foyer_lock::lock_spinning;
 use std::io;
 use std::io::Write;
 use std::sync::atomic::{AtomicBool, Ordering};
 use std::sync::{Mutex, Wait};
+
+/// Shows that a reply to the request of this number was written, or that its writing failed, which all later flushes say. Only
+/// `Replies::write` makes one.
+#[derive(Clone, Copy)]
+pub(crate) struct Replied {
+    number: u32,
+}
 
 /// The program's output, to which each thread writes whole replies.
 pub(crate) struct Replies<O: Write + Drop> {
@@ -51,16 +57,19 @@ impl<O: Write + Drop> Replies<O> {
     }
 
     /// Writes a reply. If it can't be written, or has more than `u32::MAX` bytes, all later flushes give false.
-    pub(crate) fn write(&self, rt: &impl Wait, number: u32, code: u8, bytes: &[u8]) {
-        let written = write_frame(&mut *lock_spinning(&self.output, rt), number, code, bytes);
+    pub(crate) fn write(&self, rt: &impl Wait, number: u32, coded: Coded<'_>) -> Replied
+        ensures { result.number ≡ number }
+    {
+        let written = write_frame(
+            &mut *lock_spinning(&self.output, rt),
+            number,
+            coded.code(),
+            coded.bytes(),
+        );
         if written.is_err() {
             self.has_failed.store(true, Ordering::Relaxed);
         }
-    }
-
-    /// Writes the reply to a request that was refused with this error.
-    pub(crate) fn write_error(&self, rt: &impl Wait, number: u32, error: Error) {
-        self.write(rt, number, error_code(error.kind()), &[]);
+        Replied { number }
     }
 
     /// Writes out what the output has in its buffer. Gives whether that went well and every reply so far could be written.

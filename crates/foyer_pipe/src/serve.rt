@@ -1,5 +1,6 @@
 //! The whole program, over any reader and writers.
-ghost use Rattle.std.specs.Prelude.{◌≡◌, ◌⊎◌, ◌^◌, IfOk};
+ghost use Rattle.std.specs.Prelude.{◌≡◌, ◌⊎◌, ◌^◌, IfErr, IfOk};
+ghost use Rattle.foyer_device_page.specs.declared.error.Error.TheVariants as error;
 ghost use Rattle.foyer_cli.specs.Arguments.{AskVersion};
 ghost use Rattle.foyer_device_throttle.specs.Limits.{IsLimit};
 ghost use Rattle.foyer_frames.specs.Stream.{limits_of};
@@ -7,21 +8,24 @@ ghost use Rattle.foyer_pipe.specs.Keys.{core_part};
 ghost use Rattle.foyer_storage_cores_run.specs.CoreLedgers.{AreOfCores};
 
 use crate::answers::{Bytes, BytesHashBuilder};
-use crate::options::{PipeOptions, USAGE, parse_words};
-use crate::task::{Job, PipeTask, STATUS_FAULT};
+use crate::options::{PipeOptions, SETTINGS, USAGE, Words, parse_words};
+use crate::replies::Replies;
+use crate::task::{Job, PipeTask, Requests, STATUS_FAULT, greet};
 use foyer_cli::faults::name_of;
 use foyer_cli::options::{GENERATOR_SEED, Options, ask_version, print_version};
+use foyer_cli::words::{BadWord, ask_help, print_help};
 use foyer_core_tally::book::Kinds;
 use foyer_device_page::error::{Error, Result};
 use foyer_device_partition::io::device::{
-    Device, DeviceBuilder, FsDeviceBuilder, MemoryDeviceBuilder, Throttle,
+    Device, DeviceBuilder, FileFault, FileFaults, FsDeviceBuilder, MemoryDeviceBuilder, Throttle,
+    partition_path,
 };
 use foyer_directory::lock::{DirectoryLock, PROGRAM_TRIES};
-use foyer_directory::shape::DirectoryShape;
+use foyer_directory::shape::WantedShape;
 use foyer_format_record::serde::NoProperties;
 use foyer_frames::frames::Frames;
 use foyer_io_engine::io::engine::{
-    IoEngineConfig, MemoryIoEngine, PsyncIoEngineConfig, SharedMemoryIoEngineConfig,
+    IoEngineConfig, MemoryIoEngine, NotingPsyncIoEngineConfig, SharedMemoryIoEngineConfig,
 };
 use foyer_storage_cores_run::build::builder::StoreBuilder;
 use foyer_storage_cores_run::build::config::BlockEngineConfig;
@@ -34,7 +38,7 @@ use std::fs::File;
 use std::io;
 use std::io::{BufWriter, Read, Write};
 use std::rt::Files;
-use std::sync::Wait;
+use std::sync::{Arc, Wait};
 use std::thread::Threads;
 
 // The size of the output's buffer in bytes.
@@ -70,6 +74,7 @@ fn builders_of<D: Device, I: Drop>(
     alloc: Global,
     places: Vec<Place<D, I>>,
     block_size: usize,
+    has_log: bool,
     options: &PipeOptions,
 ) -> Result<Vec<CoreBuilder<D, I>>> {
     let mut builders = Vec::new(alloc);
@@ -82,7 +87,7 @@ fn builders_of<D: Device, I: Drop>(
             .with_load_engines(options.engines)
             .with_enqueue_patience(options.patience)
             .with_clean_block_threshold(options.clean)
-            .with_tombstone_log(options.has_log);
+            .with_tombstone_log(has_log);
         let builder = StoreBuilder::new("foyerpipe", BytesHashBuilder, KEEPER_SHARDS)
             .with_engine_config(config)
             .with_io_engine_config(io_engine)
@@ -103,7 +108,33 @@ fn frames_of<R: Read + Drop>(
     Frames::new(alloc, input, options.limits)
 }
 
-// Opens a cache over these places, one for each core, and answers the input's requests.
+// What a caller sends, and what it is answered through.
+#[derive(Drop)]
+struct Streams<R: Read + Drop, W: Write + Drop> {
+    requests: Requests<R>,
+    replies: Replies<BufWriter<W, Global>>,
+}
+
+// Takes the caller's first request, and answers it if it asks for the version: nothing is opened before that.
+fn meet<R: Read + Drop, W: Write + Drop>(
+    rt: &impl Wait,
+    alloc: Global,
+    options: &PipeOptions,
+    input: R,
+    output: W,
+) -> Result<Streams<R, W>>
+    ensures refused { IfErr result (λ e. e ≡ error.Memory) }
+{
+    let frames = frames_of(alloc, input, options)?;
+    let Ok(output) = BufWriter::with_capacity(alloc, OUTPUT_CAPACITY, output) else {
+        return Err(Error::Memory);
+    };
+    let replies = Replies::new(output);
+    let requests = greet(rt, alloc, frames, &options.limits, &replies);
+    Ok(Streams { requests, replies })
+}
+
+// Opens a cache over these places, one for each core, and answers the caller's requests.
 fn serve_over<L, T, I, D, R, W>(
     rt: T,
     alloc: Global,
@@ -111,9 +142,9 @@ fn serve_over<L, T, I, D, R, W>(
     clock: SystemClock<T>,
     places: Vec<Place<D, I>>,
     block_size: usize,
+    has_log: bool,
     options: &PipeOptions,
-    input: R,
-    output: W,
+    streams: Streams<R, W>,
 ) -> Result<u8>
 where
     L: Kinds + Send + Sync + 'static,
@@ -126,11 +157,19 @@ where
     W: Write + Drop + Send,
     requires { AreOfCores L.name_of L.all blanks × (L.all ≡ 2 ^ 32) }
 {
-    let builders = builders_of(alloc, places, block_size, options)?;
+    let builders = builders_of(alloc, places, block_size, has_log, options)?;
     let jobs = jobs_of(alloc, options.readers)?;
-    let frames = frames_of(alloc, input, options)?;
-    let output = BufWriter::with_capacity(alloc, OUTPUT_CAPACITY, output)?;
-    let task = PipeTask::new(alloc, clock, options.seed, frames, output);
+    let Streams { requests, replies } = streams;
+    let patience = u64::from(options.wait_ms) * 1_000_000;
+    let task = PipeTask::new(
+        alloc,
+        clock,
+        options.seed,
+        options.limits,
+        patience,
+        requests,
+        replies,
+    );
     run_over_cores::<T, SystemClock<T>, L, Bytes, Bytes, NoProperties, _, _, D, _, _, _, I, _>(
         rt,
         alloc,
@@ -182,8 +221,7 @@ fn serve_memory<L, T, R, W>(
     blanks: CoreBlanks,
     words: &Options<'_>,
     options: &PipeOptions,
-    input: R,
-    output: W,
+    streams: Streams<R, W>,
 ) -> Result<u8>
 where
     L: Kinds + Send + Sync + 'static,
@@ -202,20 +240,23 @@ where
         places.push(Place { device, io_engine })?;
     }
     let block_size = words.block_size as usize;
+    let has_log = options.log.unwrap_or(false);
     serve_over::<L, T, _, _, R, W>(
-        rt, alloc, blanks, clock, places, block_size, options, input, output,
+        rt, alloc, blanks, clock, places, block_size, has_log, options, streams,
     )
 }
 
-// As `serve_over`, over the files of a directory: each of several cores has a directory in it, and an equal part of the capacity.
+// As `serve_over`, over the files of a directory: each of several cores has a directory in it, and an equal part of the capacity. What the
+// system refused is noted for each core.
 fn serve_directory<L, T, R, W>(
     rt: T,
     alloc: Global,
     blanks: CoreBlanks,
     words: &Options<'_>,
+    has_log: bool,
     options: &PipeOptions,
-    input: R,
-    output: W,
+    faults: &[Arc<FileFaults, Global>],
+    streams: Streams<R, W>,
 ) -> Result<u8>
 where
     L: Kinds + Send + Sync + 'static,
@@ -235,21 +276,33 @@ where
     let capacity = (words.capacity / options.cores.max(1)) as usize;
     let clock = SystemClock::start(rt)?;
     let mut places = Vec::new(alloc);
-    for core in 0..options.cores {
+    let mut core = 0u64;
+    for noted in faults {
         let path = core_path(alloc, words.directory, core, options.cores)?;
         let builder = FsDeviceBuilder::new(path.as_str())
             .with_capacity(capacity)
-            .with_throttle(throttle_of(options));
+            .with_throttle(throttle_of(options))
+            .with_faults(noted);
         let device = builder.build(&rt, alloc, clock.now())?;
         places.push(Place {
             device,
-            io_engine: PsyncIoEngineConfig::new(),
+            io_engine: NotingPsyncIoEngineConfig::new(&**noted),
         })?;
+        core = core.saturating_add(1);
     }
     let block_size = words.block_size as usize;
     serve_over::<L, T, _, _, R, W>(
-        rt, alloc, blanks, clock, places, block_size, options, input, output,
+        rt, alloc, blanks, clock, places, block_size, has_log, options, streams,
     )
+}
+
+// Where the faults of each core's files are noted. Errors: `Memory`.
+fn faults_of(alloc: Global, cores: u64) -> Result<Vec<Arc<FileFaults, Global>>> {
+    let mut faults = Vec::new(alloc);
+    for _ in 0..cores {
+        faults.push(Arc::new(alloc, FileFaults::new())?)?;
+    }
+    Ok(faults)
 }
 
 // As `serve_directory`, over a directory that no other program has, and that was made for the same block size, cores and log. Gives the
@@ -260,8 +313,7 @@ fn serve_locked<L, T, R, W, E>(
     blanks: CoreBlanks,
     words: &Options<'_>,
     options: &PipeOptions,
-    input: R,
-    output: W,
+    streams: Streams<R, W>,
     errors: &mut E,
 ) -> u8
 where
@@ -280,23 +332,75 @@ where
     E: Write,
     requires { AreOfCores L.name_of L.all blanks × (L.all ≡ 2 ^ 32) }
 {
-    let shape = DirectoryShape::new(words.block_size, options.cores, options.has_log);
-    match DirectoryLock::take_within(&rt, alloc, words.directory, &shape, PROGRAM_TRIES) {
-        Ok(lock) => {
+    let wanted = WantedShape {
+        block_size: words.block_size,
+        cores: options.cores,
+        log: options.log,
+    };
+    let faults = match faults_of(alloc, options.cores) {
+        Ok(faults) => faults,
+        Err(error) => return status_of(errors, Err(error)),
+    };
+    match DirectoryLock::take_wanted_within(&rt, alloc, words.directory, &wanted, PROGRAM_TRIES) {
+        Ok((lock, shape)) => {
             let served = serve_directory::<L, T, R, W>(
-                rt, alloc, blanks, words, options, input, output,
+                rt,
+                alloc,
+                blanks,
+                words,
+                shape.has_log,
+                options,
+                &faults,
+                streams,
             );
-            if served.is_ok() {
+            if let Ok(status) = served {
                 drop(lock);
-            } else {
-                lock.forget();
+                return status;
             }
+            lock.forget();
+            report_fault(alloc, errors, words.directory, options.cores, &faults);
             status_of(errors, served)
         }
         Err(refusal) => {
             let _ = refusal.print(errors, "foyerpipe", words.directory);
             STATUS_FAULT
         }
+    }
+}
+
+// The path of a core's file whose opening failed, or of its directory.
+fn path_of(
+    alloc: Global,
+    directory: &str,
+    core: u64,
+    cores: u64,
+    fault: &FileFault,
+) -> Result<String> {
+    let path = core_path(alloc, directory, core, cores)?;
+    match fault.file {
+        Some(file) => Ok(partition_path(alloc, path.as_str(), file)?),
+        None => Ok(path),
+    }
+}
+
+// Prints a line for each file that the system refused to make or to open: its path, and the system's words with their number.
+fn report_fault<W: Write>(
+    alloc: Global,
+    errors: &mut W,
+    directory: &str,
+    cores: u64,
+    faults: &[Arc<FileFaults, Global>],
+) {
+    let mut core = 0u64;
+    for noted in faults {
+        if let Some(fault) = noted.last()
+            && let Ok(path) = path_of(alloc, directory, core, cores, &fault)
+        {
+            let path = path.as_str();
+            let error = io::Error::from_raw_os_error(fault.code);
+            let _ = write!(errors, "foyerpipe: {path}: {error}\n");
+        }
+        core = core.saturating_add(1);
     }
 }
 
@@ -316,6 +420,13 @@ fn status_of<W: Write>(errors: &mut W, served: Result<u8>) -> u8 {
             STATUS_FAULT
         }
     }
+}
+
+// Says which word is bad, and prints the usage and the settings.
+fn refuse<W: Write>(errors: &mut W, bad: &BadWord<'_>) -> io::Result<()> {
+    bad.print(errors, "foyerpipe")?;
+    errors.write_all(USAGE.as_bytes())?;
+    errors.write_all(SETTINGS.as_bytes())
 }
 
 /// Runs the program over the words `DIR CAPACITY BLOCK` and settings, each `NAME=VALUE`, and gives its exit status, which is 0, 1 or 2.
@@ -355,22 +466,24 @@ where
     if ask_version(words) {
         return print_version(output, "foyerpipe");
     }
-    let Some((words, options)) = parse_words(words) else {
-        let _ = errors.write_all(USAGE.as_bytes());
-        return STATUS_USAGE;
+    if ask_help(words) {
+        return print_help(output, USAGE, SETTINGS);
+    }
+    let parsed = match parse_words(words) {
+        Ok(parsed) => parsed,
+        Err(bad) => {
+            let _ = refuse(&mut errors, &bad);
+            return STATUS_USAGE;
+        }
     };
-    if words.is_memory() {
-        let served = serve_memory::<L, T, R, W>(rt, alloc, blanks, &words, &options, input, output);
+    let Words { sizes, settings } = parsed;
+    let streams = match meet(&rt, alloc, &settings, input, output) {
+        Ok(streams) => streams,
+        Err(error) => return status_of(&mut errors, Err(error)),
+    };
+    if sizes.is_memory() {
+        let served = serve_memory::<L, T, R, W>(rt, alloc, blanks, &sizes, &settings, streams);
         return status_of(&mut errors, served);
     }
-    serve_locked::<L, T, R, W, E>(
-        rt,
-        alloc,
-        blanks,
-        &words,
-        &options,
-        input,
-        output,
-        &mut errors,
-    )
+    serve_locked::<L, T, R, W, E>(rt, alloc, blanks, &sizes, &settings, streams, &mut errors)
 }

@@ -15,7 +15,7 @@ use Rattle.std.proofs.lemmas.List.Sums.{position_or_len_is}
 use Rattle.std.proofs.lemmas.List.Quantifiers.{position-Some}
 use Rattle.foyer_policy_piece.specs.Record.{Record}
 use Rattle.foyer_policy_piece.specs.Referred.{Referred}
-use Rattle.foyer_policy_keeper.specs.PieceMap.{Pieces, Roomy, PieceMap, pieces_in, pieces_at, piece_of, piece_at, without, Enters, ChangesAt, HoldsSame, HasPlace, AreOwn, IsOf}
+use Rattle.foyer_policy_keeper.specs.PieceMap.{Pieces, Roomy, PieceMap, pieces_in, pieces_at, piece_of, piece_at, LosesHash, without, Enters, ChangesAt, HoldsSame, HasPlace, AreOwn, IsOf}
 
 past : (n m : ℕ) → cond (nat_lt n m) (Some n) None ≡ None → m ≤ n
 past n m h = grind (arith, nat_tests, common_steps)
@@ -232,6 +232,24 @@ module _ {K V P : Type 0} where
 
   pub own_removed : (eq : K → K → Bool) (old new : PieceMap K V P) (last hash : ℕ) (key : K) → ChangesAt eq old new hash key None → AreOwn eq old last → AreOwn eq new last
   own_removed eq old new last hash key changes own = λ h k held is. go h k held (nat_eq hash h && eq key k) (sym (changes h k) ∙ is)
+    where
+      go : (h : ℕ) (k : K) (held : Referred K V P) (b : Bool) → cond b None (piece_at eq old h k) ≡ Some held → (held.piece.hash ≡ h) × (0 < held.number) × (held.number ≤ last)
+      go h k held true is = absurd (let f : None ≡ Some held = is in cc)
+      go h k held false is = own h k held is
+
+  gone_at : (eq : K → K → Bool) (b : Bool) (o : Option (Roomy K V P)) (k : K)
+      → piece_of eq (pieces_in (cond b None o)) k ≡ cond b None (piece_of eq (pieces_in o) k)
+  gone_at eq true o k = refl
+  gone_at eq false o k = refl
+
+  -- a hash's pieces go
+  pub hash_gone : (eq : K → K → Bool) (old new : PieceMap K V P) (hash : ℕ)
+      → ((h : ℕ) → lookup (nat_eq h) new ≡ cond (nat_eq hash h) None (lookup (nat_eq h) old)) → LosesHash eq old new hash
+  hash_gone eq old new hash goes = λ h k.
+      ap (λ o. piece_of eq (pieces_in o) k) (goes h) ∙ gone_at eq (nat_eq hash h) (lookup (nat_eq h) old) k
+
+  pub own_lost : (eq : K → K → Bool) (old new : PieceMap K V P) (last hash : ℕ) → LosesHash eq old new hash → AreOwn eq old last → AreOwn eq new last
+  own_lost eq old new last hash loses own = λ h k held is. go h k held (nat_eq hash h) (sym (loses h k) ∙ is)
     where
       go : (h : ℕ) (k : K) (held : Referred K V P) (b : Bool) → cond b None (piece_at eq old h k) ≡ Some held → (held.piece.hash ≡ h) × (0 < held.number) × (held.number ≤ last)
       go h k held true is = absurd (let f : None ≡ Some held = is in cc)

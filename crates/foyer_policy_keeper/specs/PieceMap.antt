@@ -75,6 +75,11 @@ module _ {K V P : Type 0} (eq : K → K → Bool) where
   abbrev pub HoldsSame : PieceMap K V P → PieceMap K V P → Type 0
   HoldsSame old new = (h : ℕ) (k : K) → piece_at new h k ≡ piece_at old h k
 
+  -- a hash has no piece any more, and all others have what they had
+  abbrev pub LosesHash : PieceMap K V P → PieceMap K V P → ℕ → Type 0
+  LosesHash old new hash =
+      (h : ℕ) (k : K) → piece_at new h k ≡ (if nat_eq hash h then None else piece_at old h k)
+
   -- the piece has this hash, and a key that is equal to this one
   abbrev pub IsOf : ℕ → K → Record K V P → Type 0
   IsOf hash key piece = (piece.hash ≡ hash) × (eq piece.key key ≡ true)

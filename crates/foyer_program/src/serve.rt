@@ -289,6 +289,7 @@ where
     ) {
         Ok(lock) => lock,
         Err(refusal) => {
+            let refusal = refusal.without_number();
             let _ = refusal.print(errors, "foyerdisk", options.directory);
             return answer_fault(output, refusal.error().kind());
         }

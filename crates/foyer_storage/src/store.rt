@@ -3,7 +3,7 @@ pub use foyer_storage_build::builder::StoreBuilder;
 pub use foyer_storage_build::cores::engines::{TwoEngines, is_high};
 pub use foyer_storage_build::cores::kinds::{CoreBlanks, CoreKinds};
 pub use foyer_storage_build::cores::sessions::{CallerSession, TwoSessions};
-pub use foyer_storage_build::counters::StoreCounters;
+pub use foyer_storage_build::counters::{AbandonedPuts, StoreCounters};
 pub use foyer_storage_build::running::{JoinWorkers, RunningEngine, TwoWorkers, beside};
 pub use foyer_storage_build::session::StoreSession;
 pub use foyer_storage_build::store::Store;

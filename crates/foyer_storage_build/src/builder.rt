@@ -1,17 +1,25 @@
 //! What a store is built of.
 ghost use Rattle.std.specs.Arc.{arc_value};
-ghost use Rattle.std.specs.Prelude.{◌≡◌, ◌≢◌, ◌⊎◌, ◌+◌, ◌<◌, ◌^◌, IfErr, IfOk, IsOk, Err, not, vec_len};
+ghost use Rattle.std.specs.Prelude.{◌≡◌, ◌≢◌, ◌⊎◌, ◌↔◌, ◌+◌, ◌-◌, ◌<◌, ◌^◌, IfErr, IfOk, IsOk, Err, not, true, vec_len};
+ghost use Rattle.foyer_device_partition.specs.Extent.{total_size};
+ghost use Rattle.foyer_storage_build.specs.Building.{CanPlan, is_plan_error};
 ghost use Rattle.foyer_block_recover.specs.declared.block.recover.RecoverMode.TheVariants as recover_mode;
 ghost use Rattle.foyer_device_page.specs.declared.error.Error.TheVariants.{Config, Memory, Unsupported};
 ghost use Rattle.foyer_format_record.specs.declared.compress.Compression.TheVariants as compression;
 
-use crate::config::{Built, EngineBuildContext, EngineConfig, NoopEngineConfig, Recovering};
+use crate::config::{
+    BlockEngineConfig, Built, EngineBuildContext, EngineConfig, NoopEngineConfig, PickerSource,
+    Recovering,
+};
 use crate::running::RunningEngine;
 use crate::whole::WholeSession;
 use foyer_core_tally::book::{Blanks, Kinds};
 use foyer_device_page::error::{Error, Result};
+use foyer_device_partition::io::device::Device;
 use foyer_format_record::compress::Compression;
 use foyer_io_engine::io::engine::PsyncIoEngineConfig;
+use foyer_io_gate::gate::Gate;
+use foyer_policy_filter::StorageFilterCondition;
 use foyer_policy_keeper::keeper::Keeper;
 use foyer_storage_store::engine::core_steps::open::RecoverMode;
 use foyer_storage_store::engine::engine::signals::Signals;
@@ -189,6 +197,30 @@ where
     } = N::build(opening, rt, alloc, blanks, keeper)?;
     let (session, workers) = start(rt, alloc, signals, flushers, reclaimers, session)?;
     Ok(RunningEngine::of_one(engine, session, workers, is_enabled, statistics, throttle))
+}
+
+impl<H, I, D, S, C, G> StoreBuilder<H, BlockEngineConfig<D, S, C, G>, I>
+where
+    H: Drop,
+    I: Drop,
+    D: Device,
+    S: PickerSource,
+    C: StorageFilterCondition,
+    G: Gate,
+{
+    /// Checks the compression, and the numbers of the engine's config against its device, and leaves the device as it is. `build` and
+    /// `open_engine` do so before they touch the device. Errors: `Unsupported` with a compression; else those of `BlockEngineConfig::check`.
+    pub fn check(&self) -> Result<()>
+        ensures compressed { self.now.compression ≢ compression.None → result ≡ Err Unsupported }
+        ensures sound { self.now.compression ≡ compression.None → (IsOk result ↔ CanPlan self.now.engine.sizes (D.room self.now.engine.device)
+            (D.room self.now.engine.device - total_size (D.sizes self.now.engine.device))) }
+        ensures refused { self.now.compression ≡ compression.None → IfErr result (λ e. is_plan_error e ≡ true) }
+    {
+        if self.compression != Compression::None {
+            return Err(Error::Unsupported);
+        }
+        self.engine.check()
+    }
 }
 
 impl<H: Drop, N: Drop, I: Drop> StoreBuilder<H, N, I> {

@@ -38,6 +38,11 @@ fn first_of(low: Result<()>, high: Result<()>) -> Result<()>
     }
 }
 
+// The first number, or the second if the first is 0.
+fn either(first: i32, second: i32) -> i32 {
+    if first == 0 { second } else { first }
+}
+
 fn summed(low: DeviceSummary, high: DeviceSummary) -> DeviceSummary
     ensures { result ≡ summed low high }
 {
@@ -125,6 +130,8 @@ where
             disk_read_ios: low.disk_read_ios.wrapping_add(high.disk_read_ios),
             write_throttle: low.write_throttle.max(high.write_throttle),
             read_throttle: low.read_throttle.max(high.read_throttle),
+            last_write_error: either(low.last_write_error, high.last_write_error),
+            last_read_error: either(low.last_read_error, high.last_read_error),
         }
     }
 
@@ -135,9 +142,23 @@ where
             batches: low.batches.wrapping_add(high.batches),
             failed_blocks: low.failed_blocks.wrapping_add(high.failed_blocks),
             returned_puts: low.returned_puts.wrapping_add(high.returned_puts),
+            abandoned_by_writes: low
+                .abandoned_by_writes
+                .wrapping_add(high.abandoned_by_writes),
+            abandoned_by_memory: low
+                .abandoned_by_memory
+                .wrapping_add(high.abandoned_by_memory),
             reclaims: low.reclaims.wrapping_add(high.reclaims),
             reinsertions: low.reinsertions.wrapping_add(high.reinsertions),
             failed_appends: low.failed_appends.wrapping_add(high.failed_appends),
+        }
+    }
+
+    fn has_room(&self, rt: &impl Wait, hash: u64) -> bool {
+        if is_high(hash, self.bit) {
+            self.high.has_room(rt, hash)
+        } else {
+            self.low.has_room(rt, hash)
         }
     }
 
@@ -184,6 +205,20 @@ where
             self.high.delete(rt, &mut session.high, hash)
         } else {
             self.low.delete(rt, &mut session.low, hash)
+        }
+    }
+
+    fn remove(
+        &self,
+        rt: &impl Wait,
+        session: &mut TwoSessions<S, T>,
+        keeper: &Keeper<K, V, P, Global>,
+        hash: u64,
+    ) -> Result<()> {
+        if is_high(hash, self.bit) {
+            self.high.remove(rt, &mut session.high, keeper, hash)
+        } else {
+            self.low.remove(rt, &mut session.low, keeper, hash)
         }
     }
 

@@ -114,7 +114,8 @@ where
 /// engine's and the I/O engines' configs, the compression and the recovery's mode. The ledgers must fit `L` and have 2^32 parts each
 /// (`CoreBlanks::new`).
 ///
-/// Errors: `Config` for another number of builders, or without a shard; those of `StoreBuilder::open_engine`; that of the task's `begin`;
+/// Errors: `Config` for another number of builders, or without a shard; those of `StoreBuilder::check` of any builder, before any device is
+/// touched; those of `StoreBuilder::open_engine`; that of the task's `begin`;
 /// `Memory`, also if there are as many jobs as the session has parts, or more. After an error the task's `end` wasn't called.
 ///
 /// The caller's own thread does the last job. If no thread can be made for another job, that job is done once the later ones have ended.
@@ -164,6 +165,9 @@ where
     }
     if shards == 0 {
         return Err(Error::Config);
+    }
+    for builder in builders.iter() {
+        builder.check()?;
     }
     with_none::<R, T, L, K, V, P, H, O, D, S, C, G, I, U>(
         rt, alloc, blanks, name, hasher, shards, builders, clock, generator, task, jobs,

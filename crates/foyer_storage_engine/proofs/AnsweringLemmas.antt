@@ -2,7 +2,6 @@
 use Rattle.std.proofs.Common.{◌≡◌, ◌⊎◌, ℕ, Bool, true, List, vec_len, None, Some, Result, Err, inl, inr, sym, ap, subst, ◌∙◌}
 use Rattle.std.specs.declared.vec.Vec.{Vec}
 use Rattle.std.specs.Result.{IfOk}
-use Rattle.foyer_format_layout.specs.Page.{page_up}
 use Rattle.foyer_core_shared.specs.Answers.{IsAnswer}
 use Rattle.foyer_core_shared.specs.Reply.{Reply}
 use Rattle.foyer_core_shared.specs.Reply.TheVariants as reply
@@ -138,7 +137,7 @@ module _ {K V P A : Type 0} (is_key is_value : List ℕ → Bool) (key_of : K �
   -- a load that was ended so
   pub ended : (read_by : Ticket → Result (Vec ℕ A) Error → Type 0) (old between new : SessionState) (hash : ℕ) (throttled : Bool) (ticket : Ticket) (came : Result (Vec ℕ A) Error) (first : Reply K V P A)
       (result : Result (Load K V P A) Error) → first ≡ reply.Read ticket → IsMade old between (step.LoadBegin hash throttled) first
-      → IsAnswer is_key is_value key_of value_of (step.LoadBegin hash throttled) first → IfOk came (λ bytes. vec_len bytes ≡ page_up ticket.address.len) → read_by ticket came
+      → IsAnswer is_key is_value key_of value_of (step.LoadBegin hash throttled) first → IfOk came (λ bytes. vec_len bytes ≡ ticket.address.len) → read_by ticket came
       → IsEndOf is_key is_value key_of value_of keeps between new ticket came result → IsLoaded is_key is_value key_of value_of read_by keeps old new hash throttled result
   ended read_by old between new hash throttled ticket came first result is made looks len read (inl end) =
       let begun = got_ticket old between hash throttled ticket first is made in

@@ -1,7 +1,6 @@
 -- What an engine's calls answer: what their sessions' briefs say.
 use Rattle.std.specs.Prelude.{◌≡◌, ◌⊎◌, ℕ, Bool, true, false, List, Some, Result, Ok, Err, IfOk, vec_len}
 use Rattle.std.specs.declared.vec.Vec.{Vec}
-use Rattle.foyer_format_layout.specs.Page.{page_up}
 use Rattle.foyer_core_shared.specs.Answered.{BringsPair}
 use Rattle.foyer_core_shared.specs.Refusals.{error_of}
 use Rattle.foyer_core_shared.specs.Reply.{Reply}
@@ -151,7 +150,7 @@ module _ {K V P A : Type 0} (is_key is_value : List ℕ → Bool) (key_of : K �
   IsEndOf keeps old new ticket came answered =
       IsEndedWith old new ticket came answered ⊎ ((keeps ≡ true) × (answered ≡ Err error.Memory) × (new ≡ old))
 
-  -- What was read for the ticket ended the load: as many bytes as its pages have, of which an entry is the pair, or a fault. It was read so.
+  -- What was read for the ticket ended the load: as many bytes as its record has, of which an entry is the pair, or a fault. It was read so.
   pub record IsEnded (read_by : Ticket → Result (Vec ℕ A) Error → Type 0) (old new : SessionState) (hash : ℕ) (throttled : Bool) (answered : Result (Load K V P A) Error) : Type 0 where
     pub ticket : Ticket
     pub came : Result (Vec ℕ A) Error
@@ -160,7 +159,7 @@ module _ {K V P A : Type 0} (is_key is_value : List ℕ → Bool) (key_of : K �
     pub before : new.before ≡ Some (record { step = asked.LoadBegin hash throttled; reply = replied.Read ticket })
     pub said : IsLoadAs answer answered
     pub own : (ticket.hash ≡ hash) × (throttled ≡ false)
-    pub len : IfOk came (λ bytes. vec_len bytes ≡ page_up ticket.address.len)
+    pub len : IfOk came (λ bytes. vec_len bytes ≡ ticket.address.len)
     pub read : read_by ticket came
     pub pair : IsPairOf (step.LoadEnd ticket came) answered
 

@@ -1,5 +1,6 @@
 //! The calls of an engine, made by any thread with a session of its own. The session must have a part of the engine's book of steps.
-ghost use Rattle.std.specs.Prelude.{◌≡◌, ◌+◌, ◌<◌, IfErr, IfOk, None, Ok, true, false, vec_len, Bool};
+ghost use Rattle.std.specs.Prelude.{◌≡◌, ◌+◌, ◌<◌, IfErr, IfOk, OnErr, OnOk, None, Ok, true, false, vec_len, Bool};
+ghost use Rattle.foyer_policy_keeper.specs.PieceMap.{HoldsSame, LosesHash};
 ghost use Rattle.foyer_storage_engine.specs.Kept.{reference_of};
 ghost use Rattle.foyer_storage_engine.specs.Keeping.{IsAnsweredUnlessFull, IsKeptWhereQueued};
 ghost use Rattle.foyer_device_page.specs.declared.error.Error.{Error as error};
@@ -341,6 +342,74 @@ where
         let reply = self.shared.step(rt, session, no_io(), step);
         self.signals.queued.ring(rt);
         deleted_of(reply)
+    }
+
+    // Accepts a delete of a hash, and then takes the hash's pieces out of a keeper's shard. If the delete is refused, they stay.
+    fn delete_from(
+        &self,
+        rt: &impl Wait,
+        session: &mut Session<L>,
+        shard: &mut Shard<K, V, P, A>,
+        hash: u64,
+    ) -> Result<()>
+    where
+        K: Eq,
+        requires { 0 < session.old.shares.parts }
+        ensures answer { IsAnsweredAs N.keeps deleted_as session.old session.new (asked.Delete hash) result }
+        ensures removed { OnOk result (LosesHash K.eq shard.old.map shard.new.map hash) }
+        ensures kept { OnErr result (HoldsSame K.eq shard.old.map shard.new.map) }
+        ensures refused { IfErr result (λ e. is_draw_error e ≡ true) }
+        ensures parts { session.new.shares.parts ≡ session.old.shares.parts }
+    {
+        let delete = Step::Delete { hash };
+        let reply = self.shared.step(rt, session, no_io(), delete);
+        let deleted = deleted_of(reply);
+        if deleted.is_ok() {
+            shard.remove_hash(hash);
+        }
+        deleted
+    }
+
+    // The same under the lock of the shard that the hash lies in.
+    fn delete_at(
+        &self,
+        rt: &impl Wait,
+        session: &mut Session<L>,
+        shard: ShardOf<'_, K, V, P, A>,
+        hash: u64,
+    ) -> Result<()>
+    where
+        K: Eq,
+        requires part { 0 < session.old.shares.parts }
+        requires own { shard.hash ≡ hash }
+        ensures answer { IsAnsweredAs N.keeps deleted_as session.old session.new (asked.Delete hash) result }
+        ensures refused { IfErr result (λ e. is_draw_error e ≡ true) }
+        ensures parts { session.new.shares.parts ≡ session.old.shares.parts }
+    {
+        let lock = shard.lock();
+        self.delete_from(rt, session, &mut lock_spinning(lock, rt), hash)
+    }
+
+    /// Accepts a delete of a hash, and takes the hash's pieces out of this keeper in the same hold of their shard's lock. So loads that
+    /// begin later find nothing of the hash, queued or written, until a piece of it is put again. Errors: `Closed`, `Memory` and
+    /// `SequenceEnd`, which leave the engine and the keeper as they were.
+    pub fn delete_kept(
+        &self,
+        rt: &impl Wait,
+        session: &mut Session<L>,
+        keeper: &Keeper<K, V, P, A>,
+        hash: u64,
+    ) -> Result<()>
+    where
+        K: Eq,
+        requires { 0 < session.old.shares.parts }
+        ensures answer { IsAnsweredAs N.keeps deleted_as session.old session.new (asked.Delete hash) result }
+        ensures refused { IfErr result (λ e. is_draw_error e ≡ true) }
+        ensures parts { session.new.shares.parts ≡ session.old.shares.parts }
+    {
+        let deleted = self.delete_at(rt, session, keeper.shard(hash), hash);
+        self.signals.queued.ring(rt);
+        deleted
     }
 
     /// Says whether a hash is indexed. Errors: `SequenceEnd` if no step is left; `Memory` only if notes are kept, and one finds no room.

@@ -1,5 +1,6 @@
 //! The engine.
-ghost use Rattle.std.specs.Prelude.{◌≡◌, ◌≢◌, ◌⊎◌, ◌+◌, ◌-◌, ◌<◌, [], ◌∷◌, IfErr, IfOk, false, true};
+ghost use Rattle.std.specs.Prelude.{◌≡◌, ◌≢◌, ◌⊎◌, ◌+◌, ◌-◌, ◌<◌, [], ◌∷◌, IfErr, IfOk, OnErr, OnOk, false, true};
+ghost use Rattle.foyer_policy_keeper.specs.PieceMap.{HoldsSame, LosesHash};
 ghost use Rattle.foyer_block_recover.specs.Recovery.{marks_of};
 ghost use Rattle.foyer_block_recover.specs.declared.block.recover.RecoverMode.TheVariants as recover_mode;
 ghost use Rattle.foyer_core_chronicle.specs.SharedHistory.{newcomer};
@@ -346,6 +347,63 @@ where
         let step = Step::Delete { hash };
         let (reply, _) = self.shared.ask(rt, &mut session.told, no_io(), step);
         deleted_of(reply)
+    }
+
+    // Accepts a delete of a hash, and then takes the hash's pieces out of a keeper's shard. If the delete is refused, they stay.
+    #[tactic(auto, using(crate::proofs::HistoryLemmas::nil_is))]
+    fn delete_from(
+        &self,
+        rt: &impl Wait,
+        session: &mut HistorySession<J, L, K, V, P, D>,
+        shard: &mut Shard<K, V, P, Global>,
+        hash: u64,
+    ) -> Result<()>
+        ensures answer { IsAnswerTo (meaning K.encoding V.encoding K.is_encodable V.is_encodable K.is_decodable V.is_decodable P.age) D.byte_at deleted_as session.old.told.witness.me.0 session.new.told.witness.me.0 session.old.told.session session.new.told.session (steps.Delete hash) result }
+        ensures removed { OnOk result (LosesHash K.eq shard.old.map shard.new.map hash) }
+        ensures kept { OnErr result (HoldsSame K.eq shard.old.map shard.new.map) }
+        ensures refused { IfErr result (λ e. is_draw_error e ≡ true) }
+    {
+        let delete = Step::Delete { hash };
+        let (reply, _) = self.shared.ask(rt, &mut session.told, no_io(), delete);
+        let deleted = deleted_of(reply);
+        if deleted.is_ok() {
+            shard.remove_hash(hash);
+        }
+        deleted
+    }
+
+    // The same under the lock of the shard that the hash lies in.
+    #[tactic(auto, using(crate::proofs::HistoryLemmas::nil_is))]
+    fn delete_at(
+        &self,
+        rt: &impl Wait,
+        session: &mut HistorySession<J, L, K, V, P, D>,
+        shard: ShardOf<'_, K, V, P, Global>,
+        hash: u64,
+    ) -> Result<()>
+        requires { shard.hash ≡ hash }
+        ensures answer { IsAnswerTo (meaning K.encoding V.encoding K.is_encodable V.is_encodable K.is_decodable V.is_decodable P.age) D.byte_at deleted_as session.old.told.witness.me.0 session.new.told.witness.me.0 session.old.told.session session.new.told.session (steps.Delete hash) result }
+        ensures refused { IfErr result (λ e. is_draw_error e ≡ true) }
+    {
+        let lock = shard.lock();
+        self.delete_from(rt, session, &mut lock_spinning(lock, rt), hash)
+    }
+
+    /// Accepts a delete of a hash, and takes the hash's pieces out of this keeper in the same hold of their shard's lock. If too much is
+    /// queued, one batch of each flusher is written first.
+    #[tactic(auto, using(crate::proofs::HistoryLemmas::nil_is))]
+    pub fn delete_kept(
+        &self,
+        rt: &impl Wait,
+        session: &mut HistorySession<J, L, K, V, P, D>,
+        keeper: &Keeper<K, V, P, Global>,
+        hash: u64,
+    ) -> Result<()>
+        ensures answer { IsAnswerTo (meaning K.encoding V.encoding K.is_encodable V.is_encodable K.is_decodable V.is_decodable P.age) D.byte_at deleted_as session.old.told.witness.me.0 session.new.told.witness.me.0 session.old.told.session session.new.told.session (steps.Delete hash) result }
+        ensures refused { IfErr result (λ e. is_draw_error e ≡ true) }
+    {
+        self.make_room(rt);
+        self.delete_at(rt, session, keeper.shard(hash), hash)
     }
 
     /// Whether the index has an address for a hash of which a keeper had no piece.

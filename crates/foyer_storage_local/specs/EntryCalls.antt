@@ -6,7 +6,6 @@ use Rattle.foyer_device_page.specs.declared.error.Error.{Error}
 use Rattle.foyer_device_page.specs.declared.error.Error.TheVariants as error
 use Rattle.foyer_device_page.specs.declared.error.ErrorKind.{ErrorKind}
 use Rattle.foyer_device_page.specs.declared.error.ErrorKind.TheVariants as kind
-use Rattle.foyer_format_layout.specs.Page.{page_up}
 use Rattle.foyer_core_model.specs.Numbers.{page}
 use Rattle.foyer_core_model.specs.Record.{Outcome, Holds}
 use Rattle.foyer_core_model.specs.State.{State}
@@ -91,7 +90,7 @@ module _ {K V P A : Type 0} (m : Meaning K V P) where
   abbrev pub IsIoForCause : (hash : ℕ) → (came : ℕ → ℕ → ℕ → Type 0) → Core K V P A → Result (Load K V) Error → Type 0
   IsIoForCause hash came core said =
       said ≡ Err error.Io → (s : Settings) → AreValid s → (it : State Content) → IsStateOf m s core it
-      → (a : EntryAddress) × (address_at core.index.slots hash ≡ Some a) × (came a.block a.offset (page_up a.len) → ⊥)
+      → (a : EntryAddress) × (address_at core.index.slots hash ≡ Some a) × (came a.block a.offset a.len → ⊥)
 
   -- an entry that is answered is the newest put of this hash, in every history that led to this core and these bytes
   abbrev pub IsNewestOfHash : ℕ → Core K V P A → (ℕ → ℕ → ℕ) → Result (Load K V) Error → Type 0

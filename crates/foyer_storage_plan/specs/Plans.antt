@@ -1,5 +1,5 @@
 -- What an engine's sizes come to on a device.
-use Rattle.std.specs.Prelude.{◌≡◌, ℕ, ◌+◌, ◌-◌, ◌/◌, ◌^◌, ◌<◌, ◌≤◌, IfSome, MatchOption}
+use Rattle.std.specs.Prelude.{◌≡◌, ◌⊎◌, ℕ, ◌+◌, ◌-◌, ◌*◌, ◌/◌, ◌^◌, ◌<◌, ◌≤◌, IfSome, MatchOption, min}
 use Rattle.foyer_device_page.specs.declared.error.Error.{Error}
 use Rattle.foyer_device_page.specs.declared.error.Error.TheVariants.{Config, NoSpace}
 use Rattle.foyer_format_layout.specs.Page.{page_up}
@@ -47,14 +47,26 @@ pub record AreSizes (s : EngineSizes) : Type 0 where
   pub some_recoverer : 0 < s.recover_concurrency
   pub some_load_engine : 0 < s.load_engines
 
+-- Reclaims leave some of so many blocks alone. With a threshold that isn't below the number of blocks, each block would be reclaimed as soon as
+-- it is full. A threshold of at most 1 always stands, since a store of one block is a store too.
+abbrev pub LeavesBlocks : (threshold blocks : ℕ) → Type 0
+LeavesBlocks threshold blocks = (threshold ≤ 1) ⊎ (threshold < blocks)
+
+-- how many seats at the device's counters are needed: each worker has one, but a reclaimer two; each I/O engine for loads has one, and so have
+-- the log of deletes and all callers together; a block is read by one worker of an opening at most
+abbrev pub seats_of : EngineSizes → (blocks : ℕ) → ℕ
+seats_of s blocks = s.flushers + 2 * s.reclaimers + min s.recover_concurrency blocks + s.load_engines + 2
+
 -- The device has room for the log, and for at least as many blocks as there are flushers. It has room for no more blocks than can be
--- numbered.
+-- numbered. Reclaims leave some of these blocks alone, and there are seats for all.
 pub record HasRoom (s : EngineSizes) (free log : ℕ) : Type 0 where
   pub log_fits : log ≤ free
   pub enough : s.flushers ≤ blocks_held s free log
   pub few : blocks_held s free log < 2 ^ 32
+  pub leaves : LeavesBlocks s.clean_block_threshold (blocks_held s free log)
+  pub seats : seats_of s (blocks_held s free log) < 2 ^ 32
 
--- Why no plan is made: first the sizes, then the log, and last the number of blocks.
+-- Why no plan is made: first the sizes, then the log, and last the number of blocks and what depends on it.
 pub record IsFirstCause (s : EngineSizes) (free log : ℕ) (error : Error) : Type 0 where
   pub sizes : ¬ AreSizes s → error ≡ Config
   pub space : AreSizes s → free < log → error ≡ NoSpace

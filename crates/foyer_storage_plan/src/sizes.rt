@@ -1,6 +1,6 @@
 //! The sizes of an engine, as its config gives them.
-ghost use Rattle.std.specs.Prelude.{◌≡◌, ◌⊎◌, ◌↔◌, ◌<◌, ◌≤◌, ◌^◌, None, Err, IsOk, IfErr, IfOk, IsOkUnless, OnErr, false};
-ghost use Rattle.foyer_storage_plan.specs.Plans.{ArePlanned, AreSizes, HasRoom, IsFirstCause, blocks_held};
+ghost use Rattle.std.specs.Prelude.{◌≡◌, ◌⊎◌, ◌↔◌, ◌<◌, ◌≤◌, ◌^◌, None, Err, IsOk, IfErr, IfOk, IsOkUnless, IsTrue, OnErr, false};
+ghost use Rattle.foyer_storage_plan.specs.Plans.{ArePlanned, AreSizes, HasRoom, IsFirstCause, LeavesBlocks, blocks_held, seats_of};
 
 use foyer_core_settings::settings::{
     DEFAULT_BLOB_INDEX_SIZE, DEFAULT_BUFFER_POOL_SIZE, DEFAULT_CLEAN_BLOCK_THRESHOLD,
@@ -50,6 +50,14 @@ pub struct EngineSizes {
     pub clean_block_threshold: usize,
     /// Whether deletes are logged.
     pub tombstone_log: bool,
+}
+
+/// Whether reclaims leave some of so many blocks alone. If the threshold is the number of blocks or more, each block is reclaimed as soon as
+/// it is full, and nothing is kept. A threshold of at most 1 stands for any number of blocks, since a store of one block is a store too.
+pub fn leaves_blocks(clean_block_threshold: usize, blocks: u32) -> bool
+    ensures { IsTrue result ↔ LeavesBlocks clean_block_threshold blocks }
+{
+    clean_block_threshold <= 1 || clean_block_threshold < blocks as usize
 }
 
 impl EngineSizes {
@@ -130,9 +138,22 @@ impl EngineSizes {
         self.settings(self.flushers).check()
     }
 
+    // Whether there are seats at the device's counters for all, if there are so many blocks.
+    fn has_seats(&self, blocks: u32) -> bool
+        ensures { IsTrue result ↔ (seats_of self.now blocks < 2 ^ 32) }
+    {
+        if self.load_engines > u32::MAX as usize {
+            return false;
+        }
+        let recoverers = self.recover_concurrency.min(blocks as usize) as u64;
+        let workers = self.flushers as u64 + 2 * (self.reclaimers as u64) + recoverers;
+        workers + self.load_engines as u64 + 2 <= u32::MAX as u64
+    }
+
     /// Gives the settings of a core on a device that has `free` bytes free. The log of deletes takes `log` of them, 0 if there is no log.
     /// What is less than a block at their end stays free. Errors, in this order: `Config` as by `check`; `NoSpace` if the log takes more than
-    /// is free, and only then; `Config` if there are fewer blocks than flushers, or 2^32 or more.
+    /// is free, and only then; `Config` if there are fewer blocks than flushers, or 2^32 or more; if the threshold of clean blocks is above 1
+    /// and not below the number of blocks; or if workers and I/O engines together need more than 2^32 - 1 seats at the device's counters.
     pub fn plan(&self, free: usize, log: usize) -> Result<Settings>
         ensures plan { IfOk result (ArePlanned self.now (blocks_held self.now free log)) }
         ensures sound { IsOk result ↔ (AreSizes self.now × HasRoom self.now free log) }
@@ -148,6 +169,10 @@ impl EngineSizes {
         if blocks < self.flushers as usize || blocks > u32::MAX as usize {
             return Err(Error::Config);
         }
-        Ok(self.settings(blocks as u32))
+        let blocks = blocks as u32;
+        if !leaves_blocks(self.clean_block_threshold, blocks) || !self.has_seats(blocks) {
+            return Err(Error::Config);
+        }
+        Ok(self.settings(blocks))
     }
 }

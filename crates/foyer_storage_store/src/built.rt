@@ -252,6 +252,10 @@ where
         lock_spinning(&self.recorder, rt).io_state(rt, now)
     }
 
+    fn has_room(&self, rt: &impl Wait, _hash: u64) -> bool {
+        self.engine.has_room(rt)
+    }
+
     fn filter(&self, rt: &impl Wait, hash: u64, size: usize, now: u64) -> StorageFilterResult {
         let is_limited = self.limits_writes();
         if self.admission.is_none() && !is_limited {
@@ -297,6 +301,17 @@ where
 
     fn delete(&self, rt: &impl Wait, session: &mut StoreSession<L>, hash: u64) -> Result<()> {
         self.engine.delete(rt, &mut session.steps, hash)
+    }
+
+    fn remove(
+        &self,
+        rt: &impl Wait,
+        session: &mut StoreSession<L>,
+        keeper: &Keeper<K, V, P, Global>,
+        hash: u64,
+    ) -> Result<()> {
+        self.engine
+            .delete_kept(rt, &mut session.steps, keeper, hash)
     }
 
     fn may_contains(

@@ -69,6 +69,9 @@ pub trait Engine<S: Drop, K: Eq, V, P>: Drop {
     /// What its threads did since it was opened.
     fn work(&self) -> WorkCounts;
 
+    /// Whether a put of that hash would find room in the queue now.
+    fn has_room(&self, rt: &impl Wait, hash: u64) -> bool;
+
     /// What its admission filter, and then its limits of writes, say of an entry of that hash and size in bytes, at a moment.
     fn filter(&self, rt: &impl Wait, hash: u64, size: usize, now: u64) -> StorageFilterResult
         ensures { may_judge self.now hash size result };
@@ -100,6 +103,17 @@ pub trait Engine<S: Drop, K: Eq, V, P>: Drop {
 
     /// Accepts a delete of a hash. Errors: `Closed`; `Memory`; `SequenceEnd`.
     fn delete(&self, rt: &impl Wait, session: &mut S, hash: u64) -> Result<()>
+        ensures answered { may_delete self.now session.old session.new hash result }
+        ensures refused { IfErr result (λ e. is_draw_error e ≡ true) };
+
+    /// Accepts a delete of a hash, and takes the hash's pieces out of this keeper. Errors: `Closed`; `Memory`; `SequenceEnd`.
+    fn remove(
+        &self,
+        rt: &impl Wait,
+        session: &mut S,
+        keeper: &Keeper<K, V, P, Global>,
+        hash: u64,
+    ) -> Result<()>
         ensures answered { may_delete self.now session.old session.new hash result }
         ensures refused { IfErr result (λ e. is_draw_error e ≡ true) };
 

@@ -1,5 +1,5 @@
 //! What a store did, as any caller may ask for it: counted without a lock, and no clause says what the numbers are.
-ghost use Rattle.std.specs.Prelude.{IsOkUnless};
+ghost use Rattle.std.specs.Prelude.{◌≡◌, ◌≤◌, ◌-◌, ◌↔◌, IsOkUnless, IsTrue};
 ghost use Rattle.foyer_device_page.specs.declared.error.Error.TheVariants as error;
 
 use foyer_device_page::error::Result;
@@ -32,6 +32,10 @@ pub struct StoreCounters {
     pub rejected_puts: u64,
     /// Puts that were queued, and then had no room in a flusher's buffer or a block, or couldn't be encoded: their keys are deleted.
     pub returned_puts: u64,
+    /// Puts that were queued and then abandoned, since a write of their batch failed: their keys keep older values.
+    pub abandoned_by_writes: u64,
+    /// Puts that were queued and then abandoned, since the index got no memory for a block of their batch.
+    pub abandoned_by_memory: u64,
     /// Deletes that were accepted, except those made in place of a put.
     pub deletes: u64,
     /// Loads that the keeper answered, with a piece.
@@ -45,7 +49,7 @@ pub struct StoreCounters {
     /// Batches that flushers began.
     pub batches: u64,
     /// Blocks of which a write failed, or whose records the index got no memory for. The puts of their batch that weren't written yet are
-    /// gone, and no other count has them.
+    /// gone: `abandoned_by_writes` and `abandoned_by_memory` count them.
     pub failed_blocks: u64,
     /// Reclaims that began.
     pub reclaims: u64,
@@ -53,6 +57,56 @@ pub struct StoreCounters {
     pub reinsertions: u64,
     /// Appends to the log of deletes that failed. A later opening may have forgotten the deletes of their batches.
     pub failed_appends: u64,
+    /// The system's number of the last write that failed, or 0 if there was none or the system gave no number.
+    pub last_write_error: i32,
+    /// The same of the last read that failed.
+    pub last_read_error: i32,
+}
+
+/// Puts that were queued and then abandoned since a store was built, by the cause. Their keys keep older values, or are deleted if there was
+/// no room. If a caller keeps one of these and compares it with a later one, it knows whether a put was lost in between.
+#[derive(Clone, Copy, Debug, Default, PartialEq, Eq)]
+pub struct AbandonedPuts {
+    /// A write of their batch failed. If the records of a reinsertion filter were in the batch, there may have been more of them, but at
+    /// least one is counted.
+    pub by_writes: u64,
+    /// The index got no memory for a block of their batch. The same holds for a reinsertion filter.
+    pub by_memory: u64,
+    /// They had no room in a flusher's buffer or a block, or couldn't be encoded. Their keys are deleted.
+    pub by_room: u64,
+}
+
+impl AbandonedPuts {
+    /// How many were abandoned after an earlier moment, of which this is what the store said then. The numbers wrap at 2^64.
+    pub fn since(&self, earlier: &AbandonedPuts) -> AbandonedPuts
+        ensures writes { earlier.now.by_writes ≤ self.now.by_writes → result.by_writes ≡ self.now.by_writes - earlier.now.by_writes }
+        ensures memory { earlier.now.by_memory ≤ self.now.by_memory → result.by_memory ≡ self.now.by_memory - earlier.now.by_memory }
+        ensures room { earlier.now.by_room ≤ self.now.by_room → result.by_room ≡ self.now.by_room - earlier.now.by_room }
+    {
+        AbandonedPuts {
+            by_writes: self.by_writes.wrapping_sub(earlier.by_writes),
+            by_memory: self.by_memory.wrapping_sub(earlier.by_memory),
+            by_room: self.by_room.wrapping_sub(earlier.by_room),
+        }
+    }
+
+    /// Whether there are none.
+    pub fn is_none(&self) -> bool
+        ensures { IsTrue result ↔ ((self.now.by_writes ≡ 0) × (self.now.by_memory ≡ 0) × (self.now.by_room ≡ 0)) }
+    {
+        self.by_writes == 0 && self.by_memory == 0 && self.by_room == 0
+    }
+}
+
+// Those of an engine's work.
+pub(crate) fn abandoned_of(work: &WorkCounts) -> AbandonedPuts
+    ensures { result ≡ record { by_writes = work.now.abandoned_by_writes; by_memory = work.now.abandoned_by_memory; by_room = work.now.returned_puts } }
+{
+    AbandonedPuts {
+        by_writes: work.abandoned_by_writes,
+        by_memory: work.abandoned_by_memory,
+        by_room: work.returned_puts,
+    }
 }
 
 // The counts of the calls of some hashes: some more than a line of the processor's cache.
@@ -197,11 +251,15 @@ impl CallCounters {
             disk_write_ios: io.disk_write_ios,
             disk_read_ios: io.disk_read_ios,
             returned_puts: work.returned_puts,
+            abandoned_by_writes: work.abandoned_by_writes,
+            abandoned_by_memory: work.abandoned_by_memory,
             batches: work.batches,
             failed_blocks: work.failed_blocks,
             reclaims: work.reclaims,
             reinsertions: work.reinsertions,
             failed_appends: work.failed_appends,
+            last_write_error: io.last_write_error,
+            last_read_error: io.last_read_error,
             ..StoreCounters::default()
         };
         for stripe in self.stripes.iter() {

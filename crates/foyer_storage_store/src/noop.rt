@@ -80,6 +80,10 @@ impl<L: Kinds, K: Eq + Drop, V: Drop, P: Drop> Engine<StoreSession<L>, K, V, P> 
         WorkCounts::default()
     }
 
+    fn has_room(&self, _rt: &impl Wait, _hash: u64) -> bool {
+        true
+    }
+
     fn filter(&self, _rt: &impl Wait, _hash: u64, _size: usize, _now: u64) -> StorageFilterResult {
         StorageFilterResult::Reject
     }
@@ -106,6 +110,16 @@ impl<L: Kinds, K: Eq + Drop, V: Drop, P: Drop> Engine<StoreSession<L>, K, V, P> 
     }
 
     fn delete(&self, _rt: &impl Wait, _session: &mut StoreSession<L>, _hash: u64) -> Result<()> {
+        Ok(())
+    }
+
+    fn remove(
+        &self,
+        _rt: &impl Wait,
+        _session: &mut StoreSession<L>,
+        _keeper: &Keeper<K, V, P, Global>,
+        _hash: u64,
+    ) -> Result<()> {
         Ok(())
     }
 

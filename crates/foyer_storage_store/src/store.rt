@@ -10,7 +10,7 @@ ghost use Rattle.foyer_storage_engine.specs.declared.load.Load.{Load};
 ghost use Rattle.foyer_storage_store.specs.Storing.{IsDecided, IsEstimated, IsKept, IsStored};
 
 use crate::calls::{DeviceSummary, Engine};
-use crate::counters::{CallCounters, StoreCounters};
+use crate::counters::{AbandonedPuts, CallCounters, StoreCounters, abandoned_of};
 use foyer_device_page::error::Result;
 use foyer_device_statistics::{IoState, Statistics};
 use foyer_device_throttle::Throttle;
@@ -183,6 +183,26 @@ impl<N: Drop, K: Eq + Drop, V: Drop, P: Drop, H: Drop> Store<N, K, V, P, H> {
         self.shared.calls.with(&io, self.shared.engine.work())
     }
 
+    /// Which puts were queued and then abandoned since the store was built. A put is counted before the wait that covers it ends. No clause
+    /// says what these numbers are.
+    pub fn abandoned<S: Drop>(&self) -> AbandonedPuts
+    where
+        N: Engine<S, K, V, P>,
+    {
+        abandoned_of(&self.shared.engine.work())
+    }
+
+    /// Whether a put of this key would find room in the queue now. If it finds none, the put isn't taken, and its key is deleted. So a
+    /// caller that is alone may look before a put, and wait. No clause says what it answers.
+    pub fn has_room<S: Drop>(&self, rt: &impl Wait, key: &K) -> bool
+    where
+        N: Engine<S, K, V, P>,
+        H: HashBuilder<K>,
+    {
+        let hash = self.shared.hasher.hash_one(key);
+        self.shared.engine.has_room(rt, hash)
+    }
+
     /// The hash of a key.
     pub fn hash_of(&self, key: &K) -> u64
     where
@@ -347,6 +367,25 @@ impl<N: Drop, K: Eq + Drop, V: Drop, P: Drop, H: Drop> Store<N, K, V, P, H> {
             self.shared.calls.add_delete(hash);
         }
         deleted
+    }
+
+    /// Deletes a key at once. As `delete`, and in the same hold of the lock of the keeper's shard it takes the pieces of the key's hash out
+    /// of the keeper. So a load that begins later answers no piece that was queued before. Errors: `Closed`, `Memory` and `SequenceEnd`,
+    /// which leave the store as it was.
+    pub fn remove<S: Drop>(&self, rt: &impl Wait, session: &mut S, key: &K) -> Result<()>
+    where
+        N: Engine<S, K, V, P>,
+        H: HashBuilder<K>,
+        ensures answered { N.may_delete (arc_value self.now.shared).engine session.old session.new (H.hash_of (arc_value self.now.shared).hasher key.now) result }
+        ensures refused { IfErr result (λ e. is_draw_error e ≡ true) }
+    {
+        let inner = &self.shared;
+        let hash = inner.hasher.hash_one(key);
+        let removed = inner.engine.remove(rt, session, &inner.keeper, hash);
+        if removed.is_ok() {
+            inner.calls.add_delete(hash);
+        }
+        removed
     }
 
     /// Says whether the keeper has the key, or the engine has its hash. Errors: `SequenceEnd` if no step is left.

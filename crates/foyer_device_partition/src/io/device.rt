@@ -5,6 +5,7 @@ ghost use Rattle.foyer_device_page.specs.declared.error.Error.TheVariants as err
 
 mod any;
 mod combined;
+mod faults;
 mod file;
 mod fs;
 mod memory;
@@ -17,6 +18,7 @@ mod slot;
 
 pub use any::{AnyDevice, AnyPartition};
 pub use combined::{CombinedDevice, CombinedDeviceBuilder, CombinedPartition};
+pub use faults::{FileFault, FileFaults};
 pub use file::{FileDevice, FileDeviceBuilder, FilePartition};
 use foyer_device_page::error::Result;
 pub use foyer_device_throttle::{IopsCounter, Throttle};

@@ -25,7 +25,7 @@ pub use handle::IoHandle;
 pub use memory::MemoryIoEngine;
 pub use memory_file::MemoryFile;
 pub use noop::{NoopIoEngine, NoopIoEngineConfig};
-pub use psync::{PsyncIoEngine, PsyncIoEngineConfig};
+pub use psync::{NotingPsyncIoEngineConfig, PsyncIoEngine, PsyncIoEngineConfig};
 pub use shared_memory::{SharedMemoryIoEngine, SharedMemoryIoEngineConfig};
 
 /// Reads and writes partitions. Errors: OutOfRange, only if the range isn't there, and then the device's bytes are as
@@ -92,6 +92,12 @@ pub trait IoEngine {
     /// How many of its reads and writes the device failed, up to 2^64 - 1.
     fn failures(&self) -> u64
         ensures { result ≡ faults self.now };
+
+    /// The system's number of its last read or write that failed, or 0 if none failed or the system gave no number. No clause says what
+    /// it is.
+    fn last_error(&self) -> i32 {
+        0
+    }
 }
 
 // Whether `len` bytes from an offset of the partition on lie in it.

@@ -3,7 +3,7 @@ ghost use Rattle.std.specs.Prelude.{◌≡◌, ◌<◌, ◌≤◌, ◌+◌, ◌�
 ghost use Rattle.std.specs.HashMap.{spare};
 ghost use Rattle.std.specs.Map.{lookup};
 ghost use Rattle.std.specs.Option.{option_copied};
-ghost use Rattle.foyer_policy_keeper.specs.PieceMap.{piece_at, without_number, ChangesAt, HoldsSame, HasPlaceIn, HasRoomFor, IsFound, IsLacked, IsOf};
+ghost use Rattle.foyer_policy_keeper.specs.PieceMap.{piece_at, without_number, ChangesAt, HoldsSame, HasPlaceIn, HasRoomFor, IsFound, IsLacked, IsOf, LosesHash};
 
 use super::bucket::Bucket;
 use foyer_device_page::error::{Error, Result};
@@ -112,6 +112,16 @@ fn remove<K: Eq + Drop, V: Drop, P: Drop, A: Allocator>(
     if bucket.remove(key) {
         let _ = buckets.remove(&hash);
     }
+}
+
+// Removes all pieces of a hash.
+fn remove_all<K: Eq + Drop, V: Drop, P: Drop, A: Allocator>(
+    buckets: &mut Buckets<K, V, P, A>,
+    hash: u64,
+)
+    ensures { LosesHash K.eq buckets.old.entries buckets.new.entries hash }
+{
+    drop(buckets.remove(&hash));
 }
 
 impl<K: Eq + Drop, V: Drop, P: Drop, A: Allocator + Clone> Shard<K, V, P, A> {
@@ -227,5 +237,13 @@ impl<K: Eq + Drop, V: Drop, P: Drop, A: Allocator + Clone> Shard<K, V, P, A> {
         if is_it {
             remove(&mut self.buckets, piece.hash(), piece.key());
         }
+    }
+
+    /// Removes the pieces of a hash, whatever their keys and numbers are. It takes no memory.
+    pub fn remove_hash(&mut self, hash: u64)
+        ensures removed { LosesHash K.eq self.old.map self.new.map hash }
+        ensures last { self.new.last ≡ self.old.last }
+    {
+        remove_all(&mut self.buckets, hash);
     }
 }

@@ -1,9 +1,12 @@
 //! What an engine over the blocks of a device is built of.
-ghost use Rattle.std.specs.Prelude.{◌≡◌, None, Some};
-ghost use Rattle.foyer_storage_build.specs.Building.{default_sizes};
+ghost use Rattle.std.specs.Prelude.{◌≡◌, ◌↔◌, ◌-◌, IfErr, IsOk, None, Some, true};
+ghost use Rattle.foyer_device_partition.specs.Extent.{total_size};
+ghost use Rattle.foyer_storage_build.specs.Building.{CanPlan, default_sizes, is_plan_error};
 
+use super::dividing::plan;
 use super::pickers::{DefaultPickers, GivenPickers, PickerSource};
 use foyer_block_manager::block::eviction::EvictionPicker;
+use foyer_device_page::error::Result;
 use foyer_device_partition::io::device::Device;
 use foyer_io_gate::gate::{Gate, OpenGate};
 use foyer_policy_filter::{BuiltInCondition, StorageFilter, StorageFilterCondition};
@@ -69,6 +72,17 @@ impl<D: Device, S: PickerSource, C: StorageFilterCondition, G: Gate> BlockEngine
         ensures { result.now ≡ self.now.sizes }
     {
         &self.sizes
+    }
+
+    /// Checks that its sizes go together and fit its device, which stays as it is. `StoreBuilder::build` does so before it touches the device.
+    /// Errors, in this order: `Config` as by `EngineSizes::check`; `OutOfRange` for a log of deletes of 2^64 bytes or more; those of
+    /// `EngineSizes::plan`.
+    pub fn check(&self) -> Result<()>
+        ensures sound { IsOk result ↔ CanPlan self.now.sizes (D.room self.now.device) (D.room self.now.device - total_size (D.sizes self.now.device)) }
+        ensures refused { IfErr result (λ e. is_plan_error e ≡ true) }
+    {
+        let _ = plan(&self.device, &self.sizes)?;
+        Ok(())
     }
 
     /// The bytes of a block, rounded up to whole pages. Default: `DEFAULT_BLOCK_SIZE`.

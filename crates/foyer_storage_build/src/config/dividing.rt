@@ -1,7 +1,7 @@
 //! How a device is divided, and gets its counters.
 ghost use Rattle.std.specs.Arc.{arc_value};
-ghost use Rattle.std.specs.Prelude.{◌≡◌, ◌⊎◌, ◌+◌, ◌++◌, ◌*◌, ◌<◌, ◌≤◌, ◌^◌, ◌||◌, if◌then◌else◌, IfErr, IfOk, IfSome, IsTrue, OnOk, is_some, length, map, min, nat_le, nat_lt, replicate, true, vec_len};
-ghost use Rattle.foyer_storage_build.specs.Building.{is_begin_error};
+ghost use Rattle.std.specs.Prelude.{◌≡◌, ◌⊎◌, ◌↔◌, ◌+◌, ◌-◌, ◌++◌, ◌*◌, ◌<◌, ◌≤◌, ◌^◌, IfErr, IfOk, IfSome, IsOk, IsTrue, OnErr, OnOk, is_some, length, map, min, replicate, true, vec_len};
+ghost use Rattle.foyer_storage_build.specs.Building.{CanPlan, is_begin_error, is_plan_error, log_bytes};
 ghost use Rattle.foyer_block_tombstone.specs.Pages.{log_pages};
 ghost use Rattle.foyer_device_partition.specs.Extent.{AreDisjoint, total_size};
 ghost use Rattle.foyer_storage_plan.specs.Plans.{settings_of};
@@ -13,7 +13,7 @@ use foyer_device_page::io::bytes::PAGE;
 use foyer_device_partition::io::device::{Device, Partition};
 use foyer_device_statistics::{Recorder, Statistics};
 use foyer_device_throttle::Throttle;
-use foyer_storage_plan::sizes::EngineSizes;
+use foyer_storage_plan::sizes::{EngineSizes, leaves_blocks};
 use foyer_storage_store::engine::core_steps::settings::Settings;
 use std::alloc::Global;
 use std::rt::Files;
@@ -22,7 +22,8 @@ use std::sync::Arc;
 // Gives the bytes of the log of deletes of a device of this many bytes, or 0 if there is to be no log.
 fn log_size(capacity: usize, tombstone_log: bool) -> Result<usize>
     ensures refused { IfErr result (λ e. e ≡ Error.OutOfRange) }
-    ensures size { IfOk result (λ size. size ≡ (if tombstone_log then log_pages capacity * 4096 else 0)) }
+    ensures size { IfOk result (λ size. size ≡ log_bytes tombstone_log capacity) }
+    ensures large { OnErr result (2 ^ 64 ≤ log_bytes tombstone_log capacity) }
 {
     if !tombstone_log {
         return Ok(0);
@@ -105,15 +106,7 @@ fn recoverers_of(sizes: &EngineSizes, blocks: u32) -> u32
     }
 }
 
-// Whether reclaims leave some block alone. If the threshold is the number of blocks or more, each block is reclaimed as soon as it is
-// full, and nothing is kept. A threshold of at most 1 is accepted for any number of blocks, since a store of one block is a store too.
-fn leaves_blocks(settings: &Settings) -> bool
-    ensures { result ≡ (nat_le settings.now.clean_block_threshold 1 || nat_lt settings.now.clean_block_threshold settings.now.blocks) }
-{
-    settings.clean_block_threshold <= 1 || settings.clean_block_threshold < settings.blocks as usize
-}
-
-// What a core that has so many blocks is opened with.
+// What a core that has so many blocks is opened with. There may be fewer than were planned.
 fn settings_of(planned: Settings, blocks: usize) -> Result<Settings>
     ensures settings { IfOk result (λ s. s ≡ record planned { blocks = blocks }) }
     ensures threshold { IfOk result (λ s. (s.clean_block_threshold ≤ 1) ⊎ (s.clean_block_threshold < s.blocks)) }
@@ -124,7 +117,7 @@ fn settings_of(planned: Settings, blocks: usize) -> Result<Settings>
     };
     let settings = Settings { blocks, ..planned };
     settings.check()?;
-    if !leaves_blocks(&settings) {
+    if !leaves_blocks(settings.clean_block_threshold, settings.blocks) {
         return Err(Error::Config);
     }
     Ok(settings)
@@ -148,7 +141,22 @@ fn check_seats(settings: &Settings, recoverers: u32, load_engines: usize) -> Res
     Ok(loads)
 }
 
-// Divides a device: the log comes before the blocks.
+// Gives the settings that are planned on a device, and the bytes of its log of deletes, 0 if there is to be none. Numbers alone decide, and
+// the device stays as it is. Errors, in this order: `Config` as by `EngineSizes::check`; `OutOfRange` for a log of 2^64 bytes or more; those
+// of `EngineSizes::plan`.
+pub(super) fn plan<D: Device>(device: &D, sizes: &EngineSizes) -> Result<(Settings, usize)>
+    ensures sound { IsOk result ↔ CanPlan sizes.now (D.room device.now) (D.room device.now - total_size (D.sizes device.now)) }
+    ensures log { IfOk result (λ r. r.1 ≡ log_bytes sizes.now.tombstone_log (D.room device.now)) }
+    ensures sizes { IfOk result (λ r. r.0 ≡ settings_of sizes.now r.0.blocks r.0.indexer_shards) }
+    ensures refused { IfErr result (λ e. is_plan_error e ≡ true) }
+{
+    sizes.check()?;
+    let log_size = log_size(device.capacity(), sizes.tombstone_log)?;
+    let planned = sizes.plan(device.free(), log_size)?;
+    Ok((planned, log_size))
+}
+
+// Divides a device: the log comes before the blocks. What follows from numbers is decided before the device is touched.
 pub(super) fn divide<D: Device, R: Files>(
     rt: &R,
     alloc: Global,
@@ -167,11 +175,10 @@ pub(super) fn divide<D: Device, R: Files>(
     ensures log { IfOk result (λ d. is_some d.log ≡ sizes.now.tombstone_log) }
     ensures pages { IfOk result (λ d. IfSome d.log (λ p. D.Partition.bytes p ≡ log_pages (D.room device) * 4096)) }
     ensures device { IfOk result (λ d. (D.room d.device ≡ D.room device) × (D.limits d.device ≡ D.limits device)) }
+    ensures planned { OnOk result (CanPlan sizes.now (D.room device) (D.room device - total_size (D.sizes device))) }
     ensures refused { IfErr result (λ e. is_begin_error e ≡ true) }
 {
-    sizes.check()?;
-    let log_size = log_size(device.capacity(), sizes.tombstone_log)?;
-    let planned = sizes.plan(device.free(), log_size)?;
+    let (planned, log_size) = plan(&device, sizes)?;
     let most = recoverers_of(sizes, planned.blocks);
     let loads = check_seats(&planned, most, sizes.load_engines)?;
     let log = make_log(rt, &mut device, sizes.tombstone_log, log_size)?;

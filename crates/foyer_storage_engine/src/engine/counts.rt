@@ -13,6 +13,10 @@ pub struct WorkCounts {
     /// Puts that were queued and then returned. They didn't fit into what was left of the flusher's buffer or into a block, or couldn't be
     /// encoded. Their keys are deleted.
     pub returned_puts: u64,
+    /// Puts that were queued and then abandoned, since a write of their batch failed: their keys keep older values.
+    pub abandoned_by_writes: u64,
+    /// Puts that were queued and then abandoned, since the index got no memory for a block of their batch.
+    pub abandoned_by_memory: u64,
     /// Reclaims that began.
     pub reclaims: u64,
     /// Records of reclaimed blocks that the reinsertion filter admitted.
@@ -26,6 +30,8 @@ pub struct WorkCounters {
     batches: AtomicU64,
     failed_blocks: AtomicU64,
     returned_puts: AtomicU64,
+    abandoned_by_writes: AtomicU64,
+    abandoned_by_memory: AtomicU64,
     reclaims: AtomicU64,
     reinsertions: AtomicU64,
     failed_appends: AtomicU64,
@@ -38,6 +44,8 @@ impl Drop for WorkCounters {
             batches: _,
             failed_blocks: _,
             returned_puts: _,
+            abandoned_by_writes: _,
+            abandoned_by_memory: _,
             reclaims: _,
             reinsertions: _,
             failed_appends: _,
@@ -52,6 +60,8 @@ impl WorkCounters {
             batches: AtomicU64::new(0),
             failed_blocks: AtomicU64::new(0),
             returned_puts: AtomicU64::new(0),
+            abandoned_by_writes: AtomicU64::new(0),
+            abandoned_by_memory: AtomicU64::new(0),
             reclaims: AtomicU64::new(0),
             reinsertions: AtomicU64::new(0),
             failed_appends: AtomicU64::new(0),
@@ -71,6 +81,20 @@ impl WorkCounters {
     /// Counts a put that was queued and then returned.
     pub fn add_returned_put(&self) {
         let _ = self.returned_puts.fetch_add(1, Ordering::Relaxed);
+    }
+
+    /// Counts this many puts that were abandoned, since a write of their batch failed.
+    pub fn add_abandoned_by_writes(&self, count: u64) {
+        if count > 0 {
+            let _ = self.abandoned_by_writes.fetch_add(count, Ordering::Relaxed);
+        }
+    }
+
+    /// Counts this many puts that were abandoned, since the index got no memory for a block of their batch.
+    pub fn add_abandoned_by_memory(&self, count: u64) {
+        if count > 0 {
+            let _ = self.abandoned_by_memory.fetch_add(count, Ordering::Relaxed);
+        }
     }
 
     /// A reclaim began.
@@ -96,6 +120,8 @@ impl WorkCounters {
             batches: self.batches.load(Ordering::Relaxed),
             failed_blocks: self.failed_blocks.load(Ordering::Relaxed),
             returned_puts: self.returned_puts.load(Ordering::Relaxed),
+            abandoned_by_writes: self.abandoned_by_writes.load(Ordering::Relaxed),
+            abandoned_by_memory: self.abandoned_by_memory.load(Ordering::Relaxed),
             reclaims: self.reclaims.load(Ordering::Relaxed),
             reinsertions: self.reinsertions.load(Ordering::Relaxed),
             failed_appends: self.failed_appends.load(Ordering::Relaxed),

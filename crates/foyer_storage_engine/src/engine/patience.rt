@@ -36,11 +36,17 @@ where
         engine
     }
 
+    /// Whether a put would find room in the queue now. If it finds none, it isn't taken, and its key is deleted. It locks the core for a
+    /// moment.
+    pub fn has_room(&self, rt: &impl Wait) -> bool {
+        !lock_spinning(self.shared.locked(), rt).core().is_full()
+    }
+
     // Looks while the queue is full, `patience` times at most, and yields to other threads after each look. No lock is held between two
     // looks, so flushers can work. If they don't, the looks end nevertheless.
     pub(super) fn look_for_room(&self, rt: &impl Wait) {
         for _ in 0..self.patience {
-            if !lock_spinning(self.shared.locked(), rt).core().is_full() {
+            if self.has_room(rt) {
                 return;
             }
             thread::yield_now();

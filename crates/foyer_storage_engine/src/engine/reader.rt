@@ -1,6 +1,5 @@
 //! What an engine's loads read from.
 ghost use Rattle.std.specs.Prelude.{◌≡◌, ◌≤◌, IfErr, IfOk, IsOk, OnErr, OnOk, vec_len, ℕ};
-ghost use Rattle.foyer_format_layout.specs.Page.{page_up};
 ghost use Rattle.foyer_io_disk.specs.Disk.{IsRead, IsTorn, SurelyCame};
 ghost use Rattle.foyer_core_model.specs.Numbers.{page};
 ghost use Rattle.foyer_core_access.specs.Reclaims.{IsCleaned};
@@ -38,13 +37,13 @@ impl<D: Disk + Drop, A: Allocator + Clone> Reader<D, A> {
     pub(super) fn read(&mut self, ticket: &Ticket) -> Result<Result<Vec<u8, A>>>
         ensures read { D.is_known self.old.disk → IfOk result (λ outcome. IfOk outcome (λ bytes.
             IsRead (D.byte_at self.old.disk) ticket.now.address.block ticket.now.address.offset bytes.items)) }
-        ensures len { IfOk result (λ outcome. IfOk outcome (λ bytes. vec_len bytes ≡ page_up ticket.now.address.len)) }
-        ensures succeeds { D.surely_has self.old.disk ticket.now.address.block ticket.now.address.offset (page_up ticket.now.address.len)
+        ensures len { IfOk result (λ outcome. IfOk outcome (λ bytes. vec_len bytes ≡ ticket.now.address.len)) }
+        ensures succeeds { D.surely_has self.old.disk ticket.now.address.block ticket.now.address.offset ticket.now.address.len
             → IfOk result IsOk }
         ensures fails { IfOk result (λ outcome. OnErr outcome (SurelyCame (D.surely_has self.old.disk) (D.surely_lies self.old.disk) (D.faults self.old.disk) (D.faults self.new.disk)
-            ticket.now.address.block ticket.now.address.offset (page_up ticket.now.address.len) → ⊥)) }
+            ticket.now.address.block ticket.now.address.offset ticket.now.address.len → ⊥)) }
         ensures fault { IfOk result (λ outcome. IfErr outcome (D.may_answer self.old.disk ticket.now.address.block
-            ticket.now.address.offset (page_up ticket.now.address.len))) }
+            ticket.now.address.offset ticket.now.address.len)) }
         ensures by { IfOk result (IsReadBy D.is_known D.byte_at D.may_answer ticket.now) }
         ensures known { D.is_known self.old.disk → D.is_known self.new.disk }
         ensures has { (b o n : ℕ) → D.surely_has self.old.disk b o n → D.surely_has self.new.disk b o n }

@@ -79,6 +79,11 @@ where
         self.work.shown()
     }
 
+    // A put that finds too much queued writes a batch first.
+    fn has_room(&self, _rt: &impl Wait, _hash: u64) -> bool {
+        true
+    }
+
     fn filter(&self, _rt: &impl Wait, _hash: u64, _size: usize, _now: u64) -> StorageFilterResult {
         StorageFilterResult::Admit
     }
@@ -114,6 +119,17 @@ where
         hash: u64,
     ) -> Result<()> {
         self.delete_hash(rt, session, hash)
+    }
+
+    #[tactic(auto, using(crate::proofs::HistoryLemmas::nil_is))]
+    fn remove(
+        &self,
+        rt: &impl Wait,
+        session: &mut HistorySession<J, L, K, V, P, D>,
+        keeper: &Keeper<K, V, P, Global>,
+        hash: u64,
+    ) -> Result<()> {
+        self.delete_kept(rt, session, keeper, hash)
     }
 
     #[tactic(auto, using(crate::proofs::HistoryLemmas::nil_is))]

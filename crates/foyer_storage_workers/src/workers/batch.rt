@@ -1,5 +1,6 @@
 //! How a flusher's worker writes a batch, from its beginning to its end.
-ghost use Rattle.std.specs.Prelude.{◌≡◌, ◌<◌, false, length, true};
+ghost use Rattle.std.specs.Prelude.{◌≡◌, ◌<◌, ◌-◌, false, if◌then◌else◌, length, max, true};
+ghost use Rattle.foyer_storage_workers.specs.declared.workers.batch.Failure.TheVariants as failure;
 ghost use Rattle.foyer_storage_engine.specs.Issuing.{written_bytes};
 ghost use Rattle.foyer_io_disk.specs.Disk.{SurelyCame};
 ghost use Rattle.foyer_storage_engine.specs.Ending.{HoldsNamed};
@@ -35,6 +36,64 @@ use foyer_storage_engine::engine::counts::WorkCounters;
 use std::alloc::Allocator;
 use std::sync::{Mutex, Wait};
 
+// Why a batch failed.
+#[derive(Clone, Copy, Debug, PartialEq, Eq)]
+enum Failure {
+    // A write failed.
+    Write,
+    // The index got no memory for a block's records.
+    Memory,
+}
+
+// What was written of a batch: how many records the index took, and why the batch failed if it did.
+#[derive(Clone, Copy, Debug, PartialEq, Eq)]
+pub(super) struct Written {
+    records: usize,
+    failure: Option<Failure>,
+}
+
+// Why a batch failed whose last write was done, or wasn't.
+fn failure_of(is_written: bool) -> Failure
+    ensures { result ≡ (if is_written then failure.Memory else failure.Write) }
+{
+    if is_written {
+        Failure::Memory
+    } else {
+        Failure::Write
+    }
+}
+
+// How many of a failed batch's pieces were abandoned: those beyond the records that the index took, and at least one.
+fn abandoned(pieces: usize, records: usize) -> u64
+    ensures { result ≡ max (pieces - records) 1 }
+{
+    pieces.saturating_sub(records).max(1) as u64
+}
+
+// Counts the pieces of a batch that were abandoned, if it failed.
+fn count_abandoned(work: &WorkCounters, written: &Written, pieces: usize) {
+    match written.failure {
+        Some(Failure::Write) => work.add_abandoned_by_writes(abandoned(pieces, written.records)),
+        Some(Failure::Memory) => work.add_abandoned_by_memory(abandoned(pieces, written.records)),
+        None => {}
+    }
+}
+
+// Notes what a write's reply says of the batch: how many records the index took, or that the batch failed.
+fn note_reply<K, V, P, A: Allocator>(
+    written: &mut Written,
+    reply: &Reply<K, V, P, A>,
+    is_written: bool,
+) {
+    match reply {
+        Reply::Committed(count) => {
+            written.records = written.records.saturating_add(*count);
+        }
+        Reply::Failed => written.failure = Some(failure_of(is_written)),
+        _ => {}
+    }
+}
+
 // Does a write of a block, and reports its outcome. Gives whether to do the next write.
 #[tactic(auto, using(foyer_storage_engine::proofs::HoldingLemmas::held_on, foyer_storage_engine::proofs::HoldingLemmas::held_by_step, crate::proofs::WorkerStepLemmas::not_next))]
 fn write_one<L, K, V, P, A, E, C, D, G, N, O>(
@@ -45,6 +104,7 @@ fn write_one<L, K, V, P, A, E, C, D, G, N, O>(
     session: &mut Session<L>,
     block: BlockId,
     write: &Write<A>,
+    written: &mut Written,
 ) -> bool
 where
     L: Kinds,
@@ -69,7 +129,9 @@ where
     let result = do_write(disk, block, write);
     let is_written = result.is_ok();
     let step = Step::FlushWrote { flusher, result };
-    match engine.step_again(rt, session, no_io(), step) {
+    let reply = engine.step_again(rt, session, no_io(), step);
+    note_reply(written, &reply, is_written);
+    match reply {
         Reply::Next => is_written,
         Reply::Failed => {
             engine.signals().work.add_failed_block();
@@ -91,6 +153,7 @@ fn write_block<L, K, V, P, A, E, C, D, G, N, O>(
     session: &mut Session<L>,
     block: BlockId,
     writes: &[Write<A>],
+    written: &mut Written,
 )
 where
     L: Kinds,
@@ -114,7 +177,7 @@ where
     }
     engine.gate().pass(Point::FlushWrite);
     'writes: for write in writes {
-        if !write_one(rt, engine, disk, flusher, session, block, write) {
+        if !write_one(rt, engine, disk, flusher, session, block, write, written) {
             return;
         }
     }
@@ -133,6 +196,7 @@ fn do_asked<L, K, V, P, A, E, C, D, G, N, O>(
     session: &mut Session<L>,
     seen: u64,
     reply: Reply<K, V, P, A>,
+    written: &mut Written,
 ) -> bool
 where
     L: Kinds,
@@ -159,7 +223,7 @@ where
                 *own = Some(block);
                 engine.signals().reclaims.ring(rt);
             }
-            write_block(rt, engine, disk, flusher, session, block, &writes);
+            write_block(rt, engine, disk, flusher, session, block, &writes, written);
             true
         }
         Reply::NoBlock => {
@@ -181,7 +245,7 @@ pub(super) fn write_batch<L, K, V, P, A, E, C, D, G, N, O>(
     flusher: u32,
     own: &mut Option<BlockId>,
     session: &mut Session<L>,
-)
+) -> Written
 where
     L: Kinds,
     K: Code<A> + Drop,
@@ -199,11 +263,26 @@ where
     ensures parts { session.new.shares.parts ≡ session.old.shares.parts }
     ensures ended { IsAtBatchEnd flusher session.new }
 {
+    let mut written = Written {
+        records: 0,
+        failure: None,
+    };
     for _ in rt.forever() {
         let seen = engine.signals().done.count(rt);
         let reply = engine.step_again(rt, session, no_io(), Step::FlushBlock { flusher });
-        if !do_asked(rt, engine, disk, flusher, own, session, seen, reply) {
-            return;
+        let goes_on = do_asked(
+            rt,
+            engine,
+            disk,
+            flusher,
+            own,
+            session,
+            seen,
+            reply,
+            &mut written,
+        );
+        if !goes_on {
+            return written;
         }
     }
     unreachable!()
@@ -216,12 +295,13 @@ pub(super) struct BatchEnd<K, V, P, A: Allocator> {
     answered: AllAnswered<A>,
 }
 
-// Does what the reply to a batch's end asks: its pieces are released in order, then its waits are answered. None if the batch didn't end.
+// Does what the reply to a batch's end asks: abandoned pieces are counted, all are released in order, then its waits are answered. None if the batch didn't end.
 fn do_end<L, K, V, P, A, E, C, D, G, N>(
     rt: &impl Wait,
     engine: &BlockEngine<L, K, V, P, A, E, C, D, G, N>,
     keeper: &Keeper<K, V, P, A>,
     reply: Reply<K, V, P, A>,
+    written: &Written,
 ) -> Option<BatchEnd<K, V, P, A>>
 where
     L: Kinds,
@@ -238,6 +318,7 @@ where
 {
     match reply {
         Reply::Ended { pieces, waits } => {
+            count_abandoned(&engine.signals().work, written, pieces.len());
             let released = release_all(rt, keeper, pieces);
             let answered = answer_all(rt, &engine.signals().waits, waits);
             Some(BatchEnd { released, answered })
@@ -254,6 +335,7 @@ pub(super) fn end_batch<L, K, V, P, A, E, C, D, G, N>(
     keeper: &Keeper<K, V, P, A>,
     flusher: u32,
     session: &mut Session<L>,
+    written: &Written,
 ) -> Option<BatchEnd<K, V, P, A>>
 where
     L: Kinds,
@@ -272,7 +354,7 @@ where
     ensures ended { HasEnded A flusher session.new result }
 {
     let reply = engine.step_again(rt, session, no_io(), Step::FlushEnd { flusher });
-    let end = do_end(rt, engine, keeper, reply);
+    let end = do_end(rt, engine, keeper, reply, written);
     engine.signals().done.ring(rt);
     end
 }

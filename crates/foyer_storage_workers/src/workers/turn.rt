@@ -68,8 +68,8 @@ where
         return has_taken;
     }
     engine.signals().work.add_batch();
-    write_batch(rt, engine, &mut parts.disk, flusher, own, session);
-    let _ = end_batch(rt, engine, &*parts.keeper, flusher, session);
+    let written = write_batch(rt, engine, &mut parts.disk, flusher, own, session);
+    let _ = end_batch(rt, engine, &*parts.keeper, flusher, session, &written);
     true
 }
 

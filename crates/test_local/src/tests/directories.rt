@@ -47,7 +47,7 @@ struct Opening<'a> {
 fn throttle_of(word: &str) -> Throttle {
     match word {
         "one-read" => Throttle::new().with_read_iops(1),
-        "2048-bytes" => Throttle::new().with_read_throughput(2048),
+        "27-bytes" => Throttle::new().with_read_throughput(27),
         "one-write" => Throttle::new().with_write_iops(1).with_write_throughput(1),
         "1024-an-access" => Throttle::new().with_iops_counter(IopsCounter::per_io_size(1024)),
         _ => Throttle::new(),

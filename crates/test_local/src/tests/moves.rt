@@ -229,7 +229,7 @@ pub fn say_moves<R: Files + Wait + Clone + Drop>(
 const MOST_ALLOCATIONS: u64 = 2000;
 
 const BOTH: &str =
-    " -, -, -, -, -, -, -, write 0, next, committed 3, -, -, -, -, write 0, write 1, next, next, committed 1, -, picked 0, not now, scan 0 4096 4096, listed, clean 0, done, true, -, -, write 1, next, next, committed 1, -, at 8192, 1 is a long text, miss, at 4096, 4 is d,";
+    " -, -, -, -, -, -, -, write 0, next, committed 3, -, -, -, -, write 0, write 1, next, next, committed 1, -, picked 0, not now, scan 0 4096 63, listed, clean 0, done, true, -, -, write 1, next, next, committed 1, -, at 8192, 1 is a long text, miss, at 4096, 4 is d,";
 
 // What the run of both scripts answers, whose memory comes from an allocator.
 fn say_both<R: Wait + Clone + Drop, A: Allocator + Clone>(

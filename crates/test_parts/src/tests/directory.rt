@@ -2,7 +2,7 @@
 use crate::tests::tables::{asked, cut, number};
 use foyer_device_page::error::Result;
 use foyer_directory::lock::{DirectoryLock, LockError};
-use foyer_directory::shape::DirectoryShape;
+use foyer_directory::shape::{DirectoryShape, WantedShape};
 use foyer_testing::rows::first_difference;
 use foyer_testing::said::Said;
 use std::alloc::Global;
@@ -63,6 +63,35 @@ fn say_lock(
     say_taken(said, rt.alloc(), held, taken, directory, word == "why")
 }
 
+// Takes a lock for a shape that may leave its log to the directory, and says whether that has one.
+fn say_wanted(
+    said: &mut Said,
+    rt: &HostRuntime,
+    held: &mut Vec<DirectoryLock>,
+    words: &str,
+) -> Result<()> {
+    let (directory, words) = cut(words);
+    let (block_size, rest) = cut(words);
+    let (cores, log) = cut(rest);
+    let wanted = WantedShape {
+        block_size: number(block_size),
+        cores: number(cores),
+        log: match log {
+            "0" => Some(false),
+            "1" => Some(true),
+            _ => None,
+        },
+    };
+    match DirectoryLock::take_wanted_within(rt, rt.alloc(), directory, &wanted, 1) {
+        Ok((lock, shape)) => {
+            held.push(lock)?;
+            said.word(if shape.has_log { "logged" } else { "unlogged" });
+        }
+        Err(refusal) => said.word(refusal.without_number().error().kind().name()),
+    }
+    Ok(())
+}
+
 // The text of a file, with a bar for each line's end.
 fn say_file(said: &mut Said, rt: &HostRuntime, path: &str) {
     match fs::read(rt, path) {
@@ -89,6 +118,7 @@ fn say_call(
     let (path, text) = cut(rest);
     match word {
         "take" | "why" | "within" => return say_lock(said, rt, held, word, rest),
+        "want" => return say_wanted(said, rt, held, rest),
         "drop" => said.flag("", held.pop().is_some()),
         "forget" => match held.pop() {
             Some(lock) => {
@@ -139,8 +169,16 @@ the greatest numbers have room
 take great 18446744073709551615 18446744073709551615 1, drop, take great 18446744073709551615 18446744073709551615 1, read great/foyer.lock | held, yes, held, block=18446744073709551615 cores=18446744073709551615 log=1/
 a directory that can't be made, and a lock that is none, are Io
 write great/file a, take great/file/below 4096 1 0, mkdir none, mkdir none/foyer.lock, take none 4096 1 0 | yes, Io, yes, yes, Io
+a log that nobody asks for or declines is the directory's: a new one gets one, and one without a line that has blocks has none
+want fresh 4096 1 ?, want fresh 4096 1 ?, drop, read fresh/foyer.lock, want fresh 4096 1 ?, drop, want fresh 4096 1 0, want fresh 8192 1 ?, want fresh 4096 1 1 | logged, Io, yes, block=4096 cores=1 log=1/, logged, yes, Config, Config, logged
+take old 4096 1 0, drop, want old 4096 1 ?, drop, want old 4096 1 1, want old 4096 1 0 | held, yes, unlogged, yes, Config, unlogged
+mkdir before, write before/foyer-storage-direct-fs-00000000 x, want before 4096 1 ?, drop, read before/foyer.lock | yes, yes, unlogged, yes, block=4096 cores=1 log=0/
+mkdir parts, mkdir parts/core-0, write parts/core-0/foyer-storage-direct-fs-00000000 x, want parts 4096 2 ?, forget, want parts 4096 2 1, forget, read parts/foyer.lock | yes, yes, yes, unlogged, yes, logged, yes, 
+mkdir half, write half/foyer.lock block=40, want half 4096 1 ?, drop, read half/foyer.lock | yes, yes, logged, yes, block=4096 cores=1 log=1/
+want none 4096 1 ? | Io
+clear fresh, clear old, clear before, clear parts, clear half | yes, yes, yes, yes, yes
 a refusal is a line
-why made/below 4096 2 1, why made/below 4096 2 1, why made/below 4096 2 0, why none 4096 1 0 | held, test: made/below: the directory is in use: Io, test: made/below: the directory is in use: Io, test: none: the directory couldn't be opened: Io
+why made/below 4096 2 1, why made/below 4096 2 1, why made/below 4096 2 0, why none 4096 1 0 | held, test: made/below: the directory is in use: Io, test: made/below: the directory is in use: Io, test: none: the directory couldn't be opened: Is a directory (os error 21)
 why made/below 4096 2 0 | test: made/below: its block size, cores and log must be those in its foyer.lock: Config
 clear one, clear made, clear whole, clear gone, clear begun, clear other, clear great, clear none | yes, yes, yes, yes, yes, yes, yes, yes
 ";

@@ -28,6 +28,7 @@ fn set(planned: &mut Planned, word: &str, number: usize) {
         "loads" => planned.sizes.load_engines = number,
         "flushers" => planned.sizes.flushers = workers(number),
         "reclaimers" => planned.sizes.reclaimers = workers(number),
+        "clean" => planned.sizes.clean_block_threshold = number,
         "pool" => planned.sizes.buffer_pool_size = number,
         "log" => planned.log = number,
         _ => planned.free = number,
@@ -109,8 +110,15 @@ no shard: block=8192 shards=0 free=65536: config
 no reclaimer: block=8192 reclaimers=0 free=65536: config
 no worker at an opening: block=8192 recover=0 free=65536: config
 no I/O engine for loads: block=8192 loads=0 free=65536: config
-the most workers: block=8192 flushers=4294967294 pool=17592186036224 free=35184372088831: 4294967295 blocks of 8192, index 4096, shards 16777216, share 4096
-one worker too many: block=8192 flushers=4294967294 reclaimers=2 pool=17592186036224 free=35184372088831: config
+the most workers, with a seat each, and reclaimers with two: block=8192 flushers=4294967282 pool=17592186036224 free=35184372088831: 4294967295 blocks of 8192, index 4096, shards 16777216, share 4096
+a reclaimer in place of two flushers: block=8192 flushers=4294967280 reclaimers=2 pool=17592186036224 free=35184372088831: 4294967295 blocks of 8192, index 4096, shards 16777216, share 4096
+one worker too many: block=8192 flushers=4294967283 pool=17592186036224 free=35184372088831: config
+one I/O engine too many: block=8192 flushers=4294967282 loads=2 pool=17592186036224 free=35184372088831: config
+more I/O engines than can be counted: block=8192 loads=18446744073709551615 free=65536: config
+a worker of the opening for each block at most: block=8192 flushers=1 recover=18446744073709551615 free=65536: 8 blocks of 8192, index 4096, shards 64, share 16777216
+reclaims that leave a block: block=8192 clean=7 free=65536: 8 blocks of 8192, index 4096, shards 64, share 16777216
+reclaims that leave none: block=8192 clean=8 free=65536: config
+a threshold of 1 stands for one block: block=8192 clean=1 free=8192: 1 blocks of 8192, index 4096, shards 64, share 16777216
 a block for each flusher: block=8192 flushers=8 free=65536: 8 blocks of 8192, index 4096, shards 64, share 2097152
 a block too few: block=8192 flushers=9 free=65536: config
 a log that leaves a block too few: block=8192 flushers=8 log=4096 free=65536: config

@@ -1,6 +1,6 @@
 //! What a store is asked, by words, and what is noted of its answers. Keys have 128 bits, and their low 64 bits as hash: `1+` is
 //! the key 2^64 + 1.
-use crate::tests::counted::say_counts;
+use crate::tests::counted::{say_abandoned, say_counts};
 use crate::tests::dials::Dial;
 use crate::tests::duels::{duel, settles};
 use crate::tests::gates::HoldingGate;
@@ -249,6 +249,8 @@ fn say_store<S: CallerSession, N: Engine<S, u128, String, NoProperties>>(
         "name" => said.word(store.name()),
         "hash" => said.number("hash ", store.hash_of(&key)),
         "device" => say_device(said, store.device::<S>()),
+        "room" => said.flag("", store.has_room::<S>(rt, &key)),
+        "abandoned" => say_abandoned(said, &store.abandoned::<S>()),
         "judge" => say_verdict(said, store.filter::<S>(rt, &key, 60, now)),
         "counts" => {
             let counts = store.counters::<S>(rt, now);
@@ -280,6 +282,7 @@ fn say_line<S: CallerSession, N: Engine<S, u128, String, NoProperties>>(
         "get" => say_load(said, store.load(rt, session, &key, now)),
         "has" => say_whether(said, store.may_contains(rt, session, &key)),
         "del" => say_done(said, store.delete(rt, session, &key)),
+        "remove" => say_done(said, store.remove(rt, session, &key)),
         "wait" => say_done(said, store.wait(rt, session)),
         "destroy" => say_done(said, store.destroy(rt, session)),
         "close" => say_done(said, store.close(rt, session)),

@@ -1,5 +1,5 @@
 //! The counters of a store, by words.
-use foyer_program::store::counters::StoreCounters;
+use foyer_program::store::counters::{AbandonedPuts, StoreCounters};
 use foyer_testing::said::Said;
 
 fn say_puts(said: &mut Said, counts: &StoreCounters) {
@@ -36,6 +36,13 @@ fn say_written(said: &mut Said, counts: &StoreCounters) {
 fn say_read(said: &mut Said, counts: &StoreCounters) {
     said.number("read ", counts.disk_read_bytes);
     said.number(" in ", counts.disk_read_ios);
+}
+
+/// Notes how many puts were abandoned: for a failed write, for memory, and for want of room.
+pub(crate) fn say_abandoned(said: &mut Said, abandoned: &AbandonedPuts) {
+    said.number("abandoned ", abandoned.by_writes);
+    said.number(" ", abandoned.by_memory);
+    said.number(" ", abandoned.by_room);
 }
 
 /// Notes some of them.

@@ -24,9 +24,9 @@ fails 3, opens none < put 1 a, wait, get 1, counts blocks, counts written | queu
 a reclaim reads an index, and cleans a page; no zeros are written behind the record that ends the block
 blocks 1, clean 0 < put 1 a, wait, put 2 b, wait, put 3 c, wait, counts blocks, counts written, counts read, put 4 d, wait, counts blocks, counts written, counts read | queued, ok, queued, ok, queued, ok, failed 0 reclaimed 0 again 0, wrote 32768 in 8, read 4096 in 1, queued, ok, failed 0 reclaimed 1 again 0, wrote 49152 in 12, read 8192 in 2
 and a record that is written again, which is counted then
-blocks 3, clean 0, again < put 1 aaaaaaaa, put 2 b, put 3 c, wait, put 4 d, put 5 e, put 6 f, wait, put 7 g, put 8 h, put 9 i, wait, counts read, put 10 j, wait, wait, counts blocks, counts read | queued, queued, queued, ok, queued, queued, queued, ok, queued, queued, queued, ok, read 12288 in 3, queued, ok, ok, failed 0 reclaimed 1 again 1, read 20480 in 5
+blocks 3, clean 0, again < put 1 aaaaaaaa, put 2 b, put 3 c, wait, put 4 d, put 5 e, put 6 f, wait, put 7 g, put 8 h, put 9 i, wait, counts read, put 10 j, wait, wait, counts blocks, counts read | queued, queued, queued, ok, queued, queued, queued, ok, queued, queued, queued, ok, read 12288 in 3, queued, ok, ok, failed 0 reclaimed 1 again 1, read 16452 in 5
 bytes and calls are those of an opening, of puts, loads and destroys
-counts written, put 1 a, wait, counts written, counts read, get 1, get 2, counts read, destroy, counts written, counts read | wrote 0 in 0, queued, ok, wrote 12288 in 3, read 16384 in 4, entry a, miss, read 20480 in 5, ok, wrote 28672 in 7, read 20480 in 5
+counts written, put 1 a, wait, counts written, counts read, get 1, get 2, counts read, destroy, counts written, counts read | wrote 0 in 0, queued, ok, wrote 12288 in 3, read 16384 in 4, entry a, miss, read 16445 in 5, ok, wrote 28672 in 7, read 16445 in 5
 opens none < counts read | read 0 in 0
 and of a log, which writes a page where there are marks, as a destroy has one
 log < counts written, counts read, del 1, wait, counts written, del 2, wait, wait, counts written, put 1 a, wait, counts written, counts read | wrote 0 in 0, read 20480 in 5, ok, ok, wrote 4096 in 1, ok, ok, ok, wrote 8192 in 2, queued, ok, wrote 20480 in 5, read 20480 in 5
@@ -37,10 +37,16 @@ log < del 1, wait, counts log | ok, ok, failed appends 0
 log, fails 2 < del 1, wait, counts log, del 2, wait, counts log / fails 0 < counts log | ok, ok, failed appends 1, ok, ok, failed appends 1 / failed appends 0
 log < put 1 a, wait / fails 2 < get 1, del 1, wait, counts log, get 1 / fails 0 < get 1 | queued, ok / entry a, ok, ok, failed appends 1, miss / entry a
 log < put 1 a, wait / get 1, del 1, wait, counts log, get 1 / get 1 | queued, ok / entry a, ok, ok, failed appends 0, miss / miss
+puts that are abandoned are counted before the wait ends: those of a batch of which a write failed, and those without room
+abandoned, put 1 a, wait, abandoned | abandoned 0 0 0, queued, ok, abandoned 0 0 0
+fails 1, opens none < put 1 a, wait, abandoned, put 1 b, wait, abandoned, get 1, get 1 | queued, ok, abandoned 1 0 0, queued, ok, abandoned 1 0 0, fault Io, entry b
+stops 2, opens none < put 1 a, wait, put 2 b, wait, put 3 c, wait, abandoned, get 3 | queued, ok, queued, ok, queued, ok, abandoned 3 0 0, miss
+fill 1 13000, wait, abandoned | queued, ok, abandoned 0 0 1
+cores 2, stops 1, opens none < put 1 a, put 2 b, wait, abandoned | queued, queued, ok, abandoned 2 0 0
 and all cores' are counted together
 cores 2, log, fails 2 < del 1, wait, counts log, del 2, wait, counts log | ok, ok, failed appends 1, ok, ok, failed appends 2
 calls are counted as limits count them
-per 1024, opens none < fill 1 5000, wait, counts written, get 1, counts read | queued, ok, wrote 16384 in 16, entry of 5000, read 8192 in 8
+per 1024, opens none < fill 1 5000, wait, counts written, get 1, counts read | queued, ok, wrote 16384 in 16, entry of 5000, read 5060 in 5
 ";
 
 #[test]

@@ -45,14 +45,14 @@ blocks 3, clean 0, again, patient, write-bytes 4096 < force 1 aaaaaaaa, force 2 
 ";
 
 const READS: &str =
-    "so many bytes are read in a second: a load of what is indexed is throttled before a record's page is paid, and any other misses
-read-bytes 4096, opens none < put 1 a, wait, get 1, get 1, get 2, at 999, get 1, at 1000, get 1, get 1, at 1999, get 1, at 2000, get 1 | queued, ok, entry a, throttled, miss, at 999, throttled, at 1000, entry a, throttled, at 1999, throttled, at 2000, entry a
+    "so many bytes are read in a second: a load of what is indexed is throttled before a record is paid, and any other misses
+read-bytes 61, opens none < put 1 a, wait, get 1, get 1, get 2, at 999, get 1, at 1000, get 1, get 1, at 1999, get 1, at 2000, get 1 | queued, ok, entry a, throttled, miss, at 999, throttled, at 1000, entry a, throttled, at 1999, throttled, at 2000, entry a
 no more than a second's is saved
-read-bytes 4096, opens none < put 1 a, wait, at 9000, get 1, get 1, get 1, at 9999, get 1, at 10000, get 1 | queued, ok, at 9000, entry a, entry a, throttled, at 9999, throttled, at 10000, entry a
+read-bytes 61, opens none < put 1 a, wait, at 9000, get 1, get 1, get 1, at 9999, get 1, at 10000, get 1 | queued, ok, at 9000, entry a, entry a, throttled, at 9999, throttled, at 10000, entry a
 a quota is 0 when a store is built, whenever that is
-starts 5000, read-bytes 4096, opens none < put 1 a, wait, get 1, get 1, at 5999, get 1, at 6000, get 1 | queued, ok, entry a, throttled, at 5999, throttled, at 6000, entry a
+starts 5000, read-bytes 61, opens none < put 1 a, wait, get 1, get 1, at 5999, get 1, at 6000, get 1 | queued, ok, entry a, throttled, at 5999, throttled, at 6000, entry a
 a moment before another gives nothing, and takes nothing
-read-bytes 4096, opens none < put 1 a, wait, get 1, at 999, get 1, at 0, get 1, at 1000, get 1 | queued, ok, entry a, at 999, throttled, at 0, throttled, at 1000, entry a
+read-bytes 61, opens none < put 1 a, wait, get 1, at 999, get 1, at 0, get 1, at 1000, get 1 | queued, ok, entry a, at 999, throttled, at 0, throttled, at 1000, entry a
 the reads of an opening count, those of the log too
 read-bytes 4096 < put 1 a, wait, get 1, at 3999, get 1, at 4000, get 1 | queued, ok, throttled, at 3999, throttled, at 4000, entry a
 read-bytes 4096, log < put 1 a, wait, at 4999, get 1, at 5000, get 1 | queued, ok, at 4999, throttled, at 5000, entry a
@@ -63,7 +63,7 @@ reads 1 < put 1 a, wait, at 3999, get 1, at 4000, get 1 | queued, ok, at 3999, t
 reads 1, opens none < fill 1 5000, wait, get 1, at 999, get 1, at 1000, get 1 | queued, ok, entry of 5000, at 999, throttled, at 1000, entry of 5000
 or one for each so many bytes, rounded up
 reads 4, per 1024 < put 1 a, wait, at 3999, get 1, at 4000, get 1 | queued, ok, at 3999, throttled, at 4000, entry a
-reads 4, per 1024, opens none < fill 1 5000, wait, get 1, at 1999, get 1, at 2000, get 1 | queued, ok, entry of 5000, at 1999, throttled, at 2000, entry of 5000
+reads 4, per 1024, opens none < fill 1 5000, wait, get 1, at 1249, get 1, at 1250, get 1 | queued, ok, entry of 5000, at 1249, throttled, at 1250, entry of 5000
 reads 1, per 5000, opens none < fill 1 5000, wait, get 1, at 1999, get 1, at 2000, get 1 | queued, ok, entry of 5000, at 1999, throttled, at 2000, entry of 5000
 ";
 

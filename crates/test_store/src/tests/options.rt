@@ -6,8 +6,8 @@ use std::test::Fail;
 // until so many began.
 const SIZES: &str =
     "the pages of an index are taken from its block, each batch writes them, and an opening reads them of each block
-put 1 a, wait, counts written, get 1, counts read | queued, ok, wrote 12288 in 3, entry a, read 20480 in 5
-index 8192 < put 1 a, wait, counts written, get 1, counts read | queued, ok, wrote 16384 in 3, entry a, read 36864 in 5
+put 1 a, wait, counts written, get 1, counts read | queued, ok, wrote 12288 in 3, entry a, read 16445 in 5
+index 8192 < put 1 a, wait, counts written, get 1, counts read | queued, ok, wrote 16384 in 3, entry a, read 32829 in 5
 blocks 2, clean 0 < put 1 a, put 2 b, put 3 c, put 4 d, put 5 e, wait, get 1, get 2, get 3, get 4, get 5 | queued, queued, queued, queued, queued, ok, entry a, entry b, entry c, entry d, entry e
 index 8192, blocks 2, clean 0 < put 1 a, put 2 b, put 3 c, put 4 d, put 5 e, wait, get 1, get 2, get 3, get 4, get 5 | queued, queued, queued, queued, queued, ok, miss, miss, entry c, entry d, entry e
 index 16384 < enabled | refused Config
@@ -19,7 +19,7 @@ index-shards 1 < put 1 a, put 2 b, wait, get 1, get 2, del 1, get 1, has 1, has 
 index-shards 7 < put 1 a, put 2 b, wait, get 1, get 2, del 1, get 1, has 1, has 2 | queued, queued, ok, entry a, entry b, ok, miss, no, yes
 index-shards 0 < enabled | refused Config
 any number of workers read the blocks of an opening, each block once
-put 1 a, put 2 b, wait / recoverers 1 < get 1, get 2, counts read / recoverers 1000000 < get 1, get 2, counts read | queued, queued, ok / entry a, entry b, read 28672 in 7 / entry a, entry b, read 28672 in 7
+put 1 a, put 2 b, wait / recoverers 1 < get 1, get 2, counts read / recoverers 1000000 < get 1, get 2, counts read | queued, queued, ok / entry a, entry b, read 20602 in 7 / entry a, entry b, read 20602 in 7
 recoverers 0 < enabled | refused Config
 one worker that is held at the first of two blocks is let go on by nobody, where two read them another one does
 blocks 2, recoverers 1, holds recover < held, put 1 a, wait, get 1 | no, queued, ok, entry a
@@ -48,6 +48,9 @@ clean 2 < put 1 a, put 2 b, put 3 c, put 4 d, wait, get 1, get 3, get 4, counts 
 clean 4 < enabled | refused Config
 clean 1000 < enabled | refused Config
 clean 2, blocks 2 < enabled | refused Config
+device combined, blocks 3, clean 2 < enabled | refused Config
+device combined, blocks 3, clean 1 < enabled | yes
+put 1 a, wait / clean 4 < enabled / clean 1 < get 1 / flushers 5 < enabled / flushers 1 < get 1 / index 16384 < enabled / index 4096 < get 1 | queued, ok / refused Config / entry a / refused Config / entry a / refused Config / entry a
 clean 1, blocks 1 < enabled | yes
 ";
 

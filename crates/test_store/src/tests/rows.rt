@@ -57,6 +57,13 @@ a piece that isn't taken, since too much is queued, deletes its key: the older o
 holds flush, queue 0 < force 1 a, reached, force 2 b, force 1 c, get 1, tally, held, open, wait, get 1, get 2, tally | queued, yes, queued, deleted, piece a, tally 2 1 0 0 0 0 0, yes, open, ok, miss, entry b, tally 2 1 0 1 1 1 0
 a put that finds too much queued looks again as often as it may, and isn't taken then: a flusher that is held hangs nobody
 holds flush, queue 0, patience 3 < force 1 a, reached, force 2 b, force 1 c, get 1, tally, held, open, wait, get 1, get 2 | queued, yes, queued, deleted, piece a, tally 2 1 0 0 0 0 0, yes, open, ok, miss, entry b
+a removed key is gone at once, also while a piece of it is queued, and so is another key of its hash
+holds flush < force 1 a, reached, remove 1, get 1, has 1, force 1 b, get 1, held, open, wait, get 1 | queued, yes, ok, miss, no, queued, piece b, yes, open, ok, entry b
+holds flush < force 1 a, force 1+ b, reached, get 1+, remove 1, get 1, get 1+, held, open, wait, get 1, get 1+ | queued, queued, yes, piece b, ok, miss, miss, yes, open, ok, miss, miss
+put 1 a, wait, remove 1, get 1, wait, get 1, close, remove 1 | queued, ok, ok, miss, ok, miss, ok, fault Closed
+cores 2 < put 1 a, put 2 b, remove 1, get 1, wait, get 1, get 2 | queued, queued, ok, miss, ok, miss, entry b
+a look says whether the queue has room
+holds flush, queue 0 < room 1, force 1 a, reached, room 2, force 2 b, room 2, held, open, wait, room 2 | yes, queued, yes, yes, queued, no, yes, open, ok, yes
 calls are answered while a reclaim is held
 blocks 2, holds reclaim < put 1 x, wait, put 2 x, wait, put 3 x, wait, put 4 x, reached, has 4, del 2, has 2, held, open, wait, get 1, get 4 | queued, ok, queued, ok, queued, ok, queued, yes, yes, ok, no, yes, open, ok, miss, entry x
 calls are answered where each thread lets all others go first at each point

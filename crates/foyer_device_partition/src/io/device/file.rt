@@ -70,7 +70,9 @@ impl<A: Allocator + Clone> DeviceBuilder<A> for FileDeviceBuilder<'_> {
             return Err(Error::Config);
         };
         let path = String::from_str(alloc.clone()?, self.path)?;
-        lay_file(rt, self.path, capacity / PAGE * PAGE)?;
+        if lay_file(rt, self.path, capacity / PAGE * PAGE).is_err() {
+            return Err(Error::Io);
+        }
         Ok(FileDevice {
             path,
             region: Region::new(alloc, capacity),

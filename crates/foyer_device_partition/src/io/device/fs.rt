@@ -7,14 +7,16 @@ ghost use Rattle.foyer_device_partition.specs.Paths.{partition_path, first_paths
 ghost use Rattle.foyer_device_partition.specs.Unlimited.{unlimited};
 ghost use Rattle.foyer_device_page.specs.declared.error.Error.TheVariants as error;
 
+use super::faults::FileFaults;
 use super::paths::lay_file;
 use super::sizes::Sizes;
 use super::{Device, DeviceBuilder, MAX_PARTITIONS, Partition, PartitionId, RawFile, Throttle};
 use foyer_device_page::error::{Error, Result};
 use foyer_device_page::io::bytes::PAGE;
-use std::alloc::{AllocError, Allocator};
-use std::fs;
+use std::alloc::{AllocError, Allocator, Global};
 use std::rt::Files;
+use std::sync::Arc;
+use std::{fs, io};
 
 /// Builds a device over a directory.
 #[derive(Clone, Copy, Debug)]
@@ -22,6 +24,7 @@ pub struct FsDeviceBuilder<'a> {
     dir: &'a str,
     capacity: Option<usize>,
     throttle: Throttle,
+    faults: Option<&'a Arc<FileFaults, Global>>,
 }
 
 impl<'a> FsDeviceBuilder<'a> {
@@ -35,6 +38,7 @@ impl<'a> FsDeviceBuilder<'a> {
             dir,
             capacity: None,
             throttle: Throttle::new(),
+            faults: None,
         }
     }
 
@@ -56,6 +60,34 @@ impl<'a> FsDeviceBuilder<'a> {
     {
         FsDeviceBuilder { throttle, ..self }
     }
+
+    /// Where the device notes why the system refused to make the directory or a file in it.
+    pub fn with_faults(self, faults: &'a Arc<FileFaults, Global>) -> FsDeviceBuilder<'a>
+        ensures capacity { result.capacity ≡ self.entry.capacity }
+        ensures limits { result.throttle ≡ self.entry.throttle }
+    {
+        FsDeviceBuilder {
+            faults: Some(faults),
+            ..self
+        }
+    }
+}
+
+// One more owner of where faults are noted, if they are.
+fn shared(
+    faults: Option<&Arc<FileFaults, Global>>,
+) -> std::result::Result<Option<Arc<FileFaults, Global>>, AllocError> {
+    match faults {
+        Some(faults) => Ok(Some(Arc::try_clone(faults)?)),
+        None => Ok(None),
+    }
+}
+
+// Notes a fault, if faults are noted.
+fn note(faults: &Option<Arc<FileFaults, Global>>, error: &io::Error, file: Option<u32>) {
+    if let Some(faults) = faults {
+        faults.note(error, file);
+    }
 }
 
 impl<A: Allocator + Clone> DeviceBuilder<A> for FsDeviceBuilder<'_> {
@@ -70,7 +102,9 @@ impl<A: Allocator + Clone> DeviceBuilder<A> for FsDeviceBuilder<'_> {
             return Err(Error::Config);
         };
         let dir = String::from_str(alloc.clone()?, self.dir)?;
-        if fs::create_dir_all(rt, self.dir).is_err() {
+        let faults = shared(self.faults)?;
+        if let Err(error) = fs::create_dir_all(rt, self.dir) {
+            note(&faults, &error, None);
             return Err(Error::Io);
         }
         Ok(FsDevice {
@@ -79,6 +113,7 @@ impl<A: Allocator + Clone> DeviceBuilder<A> for FsDeviceBuilder<'_> {
             sizes: Sizes::new(alloc),
             throttle: self.throttle,
             since: now,
+            faults,
         })
     }
 }
@@ -91,6 +126,7 @@ pub struct FsDevice<A: Allocator> {
     sizes: Sizes<A>,
     throttle: Throttle,
     since: u64,
+    faults: Option<Arc<FileFaults, Global>>,
 }
 
 /// Gives the path of a partition's file, for a device over the directory `dir`. It fails only if memory is refused.
@@ -117,7 +153,13 @@ impl<A: Allocator> FsDevice<A> {
         ensures { IfErr result (λ e. (e ≡ error.Io) ⊎ (e ≡ error.Memory)) }
     {
         let path = self.path(self.dir.allocator(), id)?;
-        lay_file(rt, path.as_str(), size)
+        match lay_file(rt, path.as_str(), size) {
+            Ok(()) => Ok(()),
+            Err(error) => {
+                note(&self.faults, &error, Some(id));
+                Err(Error::Io)
+            }
+        }
     }
 
     // Checks whether a partition of that size may be made. Errors, in this order: Config, NoSpace.

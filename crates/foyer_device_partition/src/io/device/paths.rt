@@ -1,29 +1,22 @@
 //! The files of a device.
-ghost use Rattle.std.specs.Prelude.{◌≡◌, ◌⊎◌, IfErr, IfOk, OnErr, vec_len};
+ghost use Rattle.std.specs.Prelude.{◌≡◌, IfOk, OnErr, vec_len};
 ghost use Rattle.foyer_device_page.specs.declared.error.Error.TheVariants as error;
 
-use foyer_device_page::error::{Error, Result};
+use foyer_device_page::error::Result;
 use std::alloc::Allocator;
 use std::fs::{OpenFile, OpenOptions};
+use std::io;
 use std::rt::Files;
 
 // Gives the file at a path that many bytes, and makes the file if it is missing. The bytes that it gains
 // are zeros.
-pub(super) fn lay_file<R: Files>(rt: &R, path: &str, len: usize) -> Result<()>
-    ensures { IfErr result (λ e. e ≡ error.Io) }
-{
-    let opened = OpenOptions::new()
+pub(super) fn lay_file<R: Files>(rt: &R, path: &str, len: usize) -> io::Result<()> {
+    let file = OpenOptions::new()
         .read(true)
         .write(true)
         .create(true)
-        .open(rt, path);
-    let Ok(file) = opened else {
-        return Err(Error::Io);
-    };
-    match file.set_len(len as u64) {
-        Ok(()) => Ok(()),
-        Err(_) => Err(Error::Io),
-    }
+        .open(rt, path)?;
+    file.set_len(len as u64)
 }
 
 // A list of one path.

@@ -101,6 +101,10 @@ impl<E: IoEngine + Drop> IoEngine for FaultIoEngine<E> {
     fn failures(&self) -> u64 {
         self.inner.failures().saturating_add(self.failed)
     }
+
+    fn last_error(&self) -> i32 {
+        self.inner.last_error()
+    }
 }
 
 // Writes no more than the first `kept` bytes.

@@ -6,9 +6,10 @@ ghost use Rattle.foyer_io_engine.specs.Disk.{IsAccessFault};
 use super::{IoEngine, IoEngineBuildContext, IoEngineConfig, IoHandle, is_inside};
 use foyer_device_page::error::{Error, Result};
 use foyer_device_page::io::bytes::{IoBuf, IoBufMut};
-use foyer_device_partition::io::device::{Partition, RawFile};
+use foyer_device_partition::io::device::{FileFaults, Partition, RawFile};
 use std::alloc::Allocator;
 use std::fs::{File, OpenOptions};
+use std::io;
 use std::os::unix::fs::FileExt;
 use std::rt::Files;
 
@@ -31,25 +32,76 @@ impl<R: Files<File = File> + Alloc> IoEngineConfig<R> for PsyncIoEngineConfig {
         rt: &R,
         context: &IoEngineBuildContext<'_, A>,
     ) -> Result<PsyncIoEngine<R::A>> {
-        let mut files = Vec::new(rt.alloc());
-        for path in context.files {
-            let opened = OpenOptions::new()
-                .read(true)
-                .write(true)
-                .open(rt, path.as_str());
-            let Ok(file) = opened else {
-                return Err(Error::Io);
-            };
-            files.push(file)?;
-        }
-        Ok(PsyncIoEngine { files, failures: 0 })
+        open_all(rt, context, None)
     }
+}
+
+/// Builds the same engines, and notes why the system refused to open a file.
+#[derive(Clone, Copy, Debug)]
+pub struct NotingPsyncIoEngineConfig<'a> {
+    faults: &'a FileFaults,
+}
+
+impl<'a> NotingPsyncIoEngineConfig<'a> {
+    /// The config that notes faults here.
+    pub fn new(faults: &'a FileFaults) -> NotingPsyncIoEngineConfig<'a>
+        ensures { result.faults.now ≡ faults.now }
+    {
+        NotingPsyncIoEngineConfig { faults }
+    }
+}
+
+impl<R: Files<File = File> + Alloc> IoEngineConfig<R> for NotingPsyncIoEngineConfig<'_> {
+    type Engine = PsyncIoEngine<R::A>;
+
+    fn build<A: Allocator>(
+        &self,
+        rt: &R,
+        context: &IoEngineBuildContext<'_, A>,
+    ) -> Result<PsyncIoEngine<R::A>> {
+        open_all(rt, context, Some(self.faults))
+    }
+}
+
+// Opens each file of a device once. A refusal is noted, if faults are. Errors: Io, Memory.
+fn open_all<R: Files<File = File> + Alloc, A: Allocator>(
+    rt: &R,
+    context: &IoEngineBuildContext<'_, A>,
+    faults: Option<&FileFaults>,
+) -> Result<PsyncIoEngine<R::A>>
+    ensures refused { IfErr result (λ e. (e ≡ error.Io) ⊎ (e ≡ error.Memory)) }
+{
+    let mut files = Vec::new(rt.alloc());
+    let mut number = 0u32;
+    for path in context.files {
+        let opened = OpenOptions::new()
+            .read(true)
+            .write(true)
+            .open(rt, path.as_str());
+        match opened {
+            Ok(file) => files.push(file)?,
+            Err(error) => {
+                if let Some(faults) = faults {
+                    faults.note(&error, Some(number));
+                }
+                return Err(Error::Io);
+            }
+        }
+        number = number.saturating_add(1);
+    }
+    Ok(PsyncIoEngine {
+        files,
+        failures: 0,
+        last_error: 0,
+    })
 }
 
 /// An engine over files that it opened, each once. It reads and writes them at a place and in full: a short read is Io.
 pub struct PsyncIoEngine<A: Allocator> {
     files: Vec<File, A>,
     failures: u64,
+    // The system's number of the last fault, or 0.
+    last_error: i32,
 }
 
 // Written out, so that it is proved once.
@@ -58,6 +110,7 @@ impl<A: Allocator> Drop for PsyncIoEngine<A> {
         let PsyncIoEngine {
             files: _,
             failures: _,
+            last_error: _,
         } = self;
     }
 }
@@ -73,7 +126,7 @@ impl<A: Allocator> PsyncIoEngine<A> {
         let Some(found) = self.files.get(file.0 as usize) else {
             return Err(Error::OutOfRange);
         };
-        let done = found.read_exact_at(into, at).is_ok();
+        let done = found.read_exact_at(into, at);
         self.answer(done)
     }
 
@@ -87,22 +140,25 @@ impl<A: Allocator> PsyncIoEngine<A> {
         let Some(found) = self.files.get(file.0 as usize) else {
             return Err(Error::OutOfRange);
         };
-        let done = found.write_all_at(bytes, at).is_ok();
+        let done = found.write_all_at(bytes, at);
         self.answer(done)
     }
 
-    // What a call answers, which counts a fault.
-    fn answer(&mut self, done: bool) -> Result<()>
+    // What a call answers, which counts a fault and keeps its number.
+    fn answer(&mut self, done: io::Result<()>) -> Result<()>
         ensures present { result ≢ Err error.OutOfRange }
         ensures same { self.new.files ≡ self.old.files }
         ensures counted { self.old.failures ≤ self.new.failures }
         ensures refused { IfErr result (IsAccessFault self.old.failures self.new.failures) }
     {
-        if done {
-            return Ok(());
+        match done {
+            Ok(()) => Ok(()),
+            Err(error) => {
+                self.last_error = error.raw_os_error().unwrap_or(0);
+                self.failures = self.failures.saturating_add(1);
+                Err(Error::Io)
+            }
         }
-        self.failures = self.failures.saturating_add(1);
-        Err(Error::Io)
     }
 }
 
@@ -145,5 +201,9 @@ impl<A: Allocator> IoEngine for PsyncIoEngine<A> {
 
     fn failures(&self) -> u64 {
         self.failures
+    }
+
+    fn last_error(&self) -> i32 {
+        self.last_error
     }
 }

@@ -92,8 +92,8 @@ a directory in a file's place is Io
 make barred/foyer-storage-direct-fs-00000001 | yes
 engine barred, 32768, 16384 < get 1 | refused Io
 remove barred | yes
-a get past the end of a file that was cut is Io: the one record is the block's second page
-engine cut, 16384, 16384 < put 1 a, wait, get 1, cut 8191, get 1, cut 4097, get 1, cut 4096, get 1, cut 4095, get 1, cut 1, get 1, cut 0, get 1 | queued ok a yes Io yes Io yes Io yes Io yes Io yes Io
+a get past the end of a file that was cut is Io: the one record is the first 53 bytes of the block's second page
+engine cut, 16384, 16384 < put 1 a, wait, get 1, cut 8191, get 1, cut 4149, get 1, cut 4148, get 1, cut 4096, get 1, cut 4095, get 1, cut 1, get 1, cut 0, get 1 | queued ok a yes a yes a yes Io yes Io yes Io yes Io yes Io
 remove cut | yes
 a fill of memory goes on past the capacity
 zeros blocks 5 < fill 150 | filled 12
@@ -181,11 +181,11 @@ the last sequence is a fault as in an opening
 forge at its end < index 0 1 18446744073709551615 4096 53 | yes
 list at its end, 16384, 16384 | fault SequenceEnd, status 1, stays yes
 remove at its end | yes
-memory and other bad words print the usage
-list :memory:, 16384, 16384 | errors usage: foyerlist DIR CAPACITY BLOCK, status 2, stays yes
-list listed, 16384 | errors usage: foyerlist DIR CAPACITY BLOCK, status 2, stays yes
-list listed, 16384, 16384, 1 | errors usage: foyerlist DIR CAPACITY BLOCK, status 2, stays yes
-list listed, 16384, x | errors usage: foyerlist DIR CAPACITY BLOCK, status 2, stays yes
+memory and other bad words are named, and the usage printed
+list :memory:, 16384, 16384 | errors foyerlist: no directory: :memory:, errors usage: foyerlist DIR CAPACITY BLOCK, status 2, stays yes
+list listed, 16384 | errors foyerlist: DIR, CAPACITY or BLOCK is missing, or a word isn't UTF-8, errors usage: foyerlist DIR CAPACITY BLOCK, status 2, stays yes
+list listed, 16384, 16384, 1 | errors foyerlist: one word too many: 1, errors usage: foyerlist DIR CAPACITY BLOCK, status 2, stays yes
+list listed, 16384, x | errors foyerlist: no number of bytes: x, errors usage: foyerlist DIR CAPACITY BLOCK, status 2, stays yes
 sizes are refused before a file is opened
 list unlisted, 4096, 16384 | fault Config, status 1, stays yes
 list unlisted, 16384, 0 | fault Config, status 1, stays yes
@@ -200,21 +200,21 @@ unlink no directory | yes
 // Each get has its moment in nanoseconds. Counters are the bytes written and read, and the calls that wrote and read.
 pub const LIMITED: &str =
     "each access of a script is counted: a batch of one record writes its page, a page of zeros behind it, and then the page of its index
-engine counted, 32768, 16384, unread, unlimited < counters, put 1 a, get 1 0, counters, wait, counters, get 1 0, get 2 0, counters, del 1, get 1 0, close, counters | 0 0 0 0 queued miss 0 0 0 0 ok 12288 0 3 0 a miss 12288 4096 3 1 ok miss ok 12288 4096 3 1
+engine counted, 32768, 16384, unread, unlimited < counters, put 1 a, get 1 0, counters, wait, counters, get 1 0, get 2 0, counters, del 1, get 1 0, close, counters | 0 0 0 0 queued miss 0 0 0 0 ok 12288 0 3 0 a miss 12288 53 3 1 ok miss ok 12288 53 3 1
 remove counted | yes
 an opening and a destroy are counted: an opening reads the first index of each block, and where one stands, that behind its record; a destroy cleans each
 engine opened, 32768, 16384, unread, unlimited < put 1 a, wait | queued ok
 engine opened, 32768, 16384, 1024-an-access < counters, destroy, counters | 0 12288 0 12 ok 8192 12288 8 12
 remove opened | yes
 a limit of reads throttles until it is filled
-engine limited, 32768, 16384, unread, one-read < put 1 a, wait, get 1 0, get 1 0, get 1 999999999, get 1 1000000000, get 1 1000000000, get 2 1000000000, counters | queued ok a throttled throttled a throttled miss 12288 8192 3 2
-engine limited, 32768, 16384, unread, 2048-bytes < put 1 b, wait, get 1 0, get 1 1000000000, get 1 2000000000 | queued ok b throttled b
+engine limited, 32768, 16384, unread, one-read < put 1 a, wait, get 1 0, get 1 0, get 1 999999999, get 1 1000000000, get 1 1000000000, get 2 1000000000, counters | queued ok a throttled throttled a throttled miss 12288 106 3 2
+engine limited, 32768, 16384, unread, 27-bytes < put 1 b, wait, get 1 0, get 1 1000000000, get 1 2000000000 | queued ok b throttled b
 remove limited | yes
 without a limit of reads nothing is throttled
-engine unlimited, 32768, 16384, unread, unlimited < put 1 a, wait, get 1 0, get 1 0, get 1 0, get 1 0, counters | queued ok a a a a 12288 16384 3 4
-engine unlimited, 32768, 16384, unread, one-write < put 1 a, wait, get 1 0, get 1 0, get 1 0, get 1 0, counters | queued ok a a a a 12288 16384 3 4
+engine unlimited, 32768, 16384, unread, unlimited < put 1 a, wait, get 1 0, get 1 0, get 1 0, get 1 0, counters | queued ok a a a a 12288 212 3 4
+engine unlimited, 32768, 16384, unread, one-write < put 1 a, wait, get 1 0, get 1 0, get 1 0, get 1 0, counters | queued ok a a a a 12288 212 3 4
 remove unlimited | yes
 a read that fails is counted too
-engine failing, 32768, 16384, unread, one-read < put 1 a, wait, cut 4096, get 1 0, counters, get 1 0, counters | queued ok yes Io 12288 4096 3 1 throttled 12288 4096 3 1
+engine failing, 32768, 16384, unread, one-read < put 1 a, wait, cut 4096, get 1 0, counters, get 1 0, counters | queued ok yes Io 12288 53 3 1 throttled 12288 53 3 1
 remove failing | yes
 ";

@@ -36,6 +36,8 @@ fn state(write_throttle: Duration) -> IoState {
         disk_read_ios: 0,
         write_throttle,
         read_throttle: Duration::ZERO,
+        last_write_error: 0,
+        last_read_error: 0,
     }
 }
 

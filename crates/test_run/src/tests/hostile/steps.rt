@@ -66,7 +66,7 @@ end 0: ended 2 0
 reclaim: picked 0
 reclaim: not now
 idle: no
-read 0: scan 0 4096 4096
+read 0: scan 0 4096 52
 read 0: listed
 forget 0: clean 0
 ask 2: yes

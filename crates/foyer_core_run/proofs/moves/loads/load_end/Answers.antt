@@ -1,7 +1,6 @@
 use Rattle.std.proofs.Common.{false, ◌||◌, sym, ap, subst, ◌∙◌}
 use Rattle.std.specs.Prelude.{slice_get}
 use Rattle.foyer_core_laws.specs.Content.{meaning}
-use Rattle.foyer_format_layout.specs.Page.{page_up}
 use Rattle.foyer_core_steps.specs.Asked.{came_of}
 use Rattle.foyer_core_run.specs.Causes.{HasCome, is_fault}
 use Rattle.foyer_core_run.specs.Running.{IsMoved, at, ticket_in, with_ticket}
@@ -35,7 +34,7 @@ returns-clause-moved g c = λ known s sound from w running.
           (ap (λ xs. at (slice_get xs c.args.n)) (sym c.as_slice.ensures.value) ∙ sym c.get_due.ensures ∙ c.in-Some.is)
           (come_is bytes c.in-Some.ticket c.in_ok-came.came (c.in_ok-came.ensures.read known) c.in_ok-came.ensures.len)
           (unsure_lying c.in_ok-came.came (g.D.Disk.surely_has c.args.disk.now) g.D.Disk.surely_lies g.D.Disk.faults c.args.disk.now c.do_read.new.disk
-          c.in-Some.ticket.address.block c.in-Some.ticket.address.offset (page_up c.in-Some.ticket.address.len) c.in_ok-came.ensures.fails)
+          c.in-Some.ticket.address.block c.in-Some.ticket.address.offset c.in-Some.ticket.address.len c.in_ok-came.ensures.fails)
           (c.apply-answer.ensures.meets s sound w.core running.stands)
           (c.note_ticket.ensures.noted ∙ ap (with_ticket (ticket_in c.apply-answer.result)) c.set_due.ensures.set)
           c.push_reserved.ensures.items),

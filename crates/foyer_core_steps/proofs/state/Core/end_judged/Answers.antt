@@ -2,7 +2,6 @@ use Rattle.std.proofs.Common.{Bool, true, ◌≡◌, ◌<◌, ◌&&◌, length, 
 use Rattle.std.proofs.lemmas.Option.{slice_get_within}
 use Rattle.std.specs.Cmp.Derive.{both_true}
 use Rattle.foyer_device_page.specs.declared.error.ErrorKind.TheVariants as kind
-use Rattle.foyer_format_layout.specs.Page.{page_up}
 use Rattle.foyer_format_record.specs.Record.{pair_of}
 use Rattle.foyer_format_record.specs.Record.Outcome.{NoRecord, Pair}
 use Rattle.foyer_core_model.specs.Reply as model_reply
@@ -41,7 +40,7 @@ returns-then-state-address-clause-meets g c = λ age_of s sound it stands few.
     let at : slice_get old.manager.blocks t.address.block ≡ Some c.in-Some.state = sym c.known.ensures ∙ c.in-Some.is in
     let there : t.address.block < s.blocks = subst (λ n. t.address.block < n) stands.manager.blocks (slice_get_within old.manager.blocks t.address.block c.in-Some.state at) in
     let known : IsBlockAs c.in-Some.state (it.place t.address.block) (it.filling t.address.block) (it.stats t.address.block) = stands.manager.sets.blocks t.address.block c.in-Some.state at in
-    let as_issued : length c.in-Ok.bytes.items ≡ page_up t.address.len = omega (arith, c.if-len-read_len.false, c.read_len.ensures.pages, c.len.ensures) in
+    let as_issued : length c.in-Ok.bytes.items ≡ t.address.len = omega (arith, c.if-len-read_len.false, c.read_len.ensures, c.len.ensures) in
     subst (λ o. IsRefinedUncounted m s sound (step.LoadEnd t o) c.miss.result c.miss.new.self it) (sym c.in-Ok.is)
     (subst (λ r. IsRefinedUncounted m s sound (step.LoadEnd t (Ok c.in-Ok.bytes)) r c.miss.new.self it) (sym c.miss.ensures.reply)
     (misses m s sound it t c.in-Ok.bytes there as_issued c.miss.new.self (c.miss.ensures.meets m s it stands) (judged_past m s sound it t c.in-Ok.bytes.items (λ same. c.if-state-address.true (sym known.filling ∙ sym same)))))
@@ -54,7 +53,7 @@ returns-in-Ok-Some-clause-meets g c = λ age_of s sound it stands few.
     let at : slice_get old.manager.blocks t.address.block ≡ Some c.in-Some.state = sym c.known.ensures ∙ c.in-Some.is in
     let there : t.address.block < s.blocks = subst (λ n. t.address.block < n) stands.manager.blocks (slice_get_within old.manager.blocks t.address.block c.in-Some.state at) in
     let known : IsBlockAs c.in-Some.state (it.place t.address.block) (it.filling t.address.block) (it.stats t.address.block) = stands.manager.sets.blocks t.address.block c.in-Some.state at in
-    let as_issued : length c.in-Ok.bytes.items ≡ page_up t.address.len = omega (arith, c.if-len-read_len.false, c.read_len.ensures.pages, c.len.ensures) in
+    let as_issued : length c.in-Ok.bytes.items ≡ t.address.len = omega (arith, c.if-len-read_len.false, c.read_len.ensures, c.len.ensures) in
     let whole : IsReadAs g.K.Code.is_decodable g.V.Code.is_decodable g.K.Code.encoding g.V.Code.encoding g.K.Code.is_encodable g.V.Code.is_encodable (take t.address.len c.in-Ok.bytes.items) t.hash t.address.sequence c.args.judged.found =
     subst (λ o. IsJudged g.K.Code.is_decodable g.V.Code.is_decodable g.K.Code.encoding g.V.Code.encoding g.K.Code.is_encodable g.V.Code.is_encodable t o c.args.judged.found) c.in-Ok.is c.requires as_issued in
     let filling : t.address.filling ≡ it.filling t.address.block = sym c.if-state-address.false ∙ sym known.filling in
@@ -83,7 +82,7 @@ returns-in-Ok-None-clause-meets g c = λ age_of s sound it stands few.
     let at : slice_get old.manager.blocks t.address.block ≡ Some c.in-Some.state = sym c.known.ensures ∙ c.in-Some.is in
     let there : t.address.block < s.blocks = subst (λ n. t.address.block < n) stands.manager.blocks (slice_get_within old.manager.blocks t.address.block c.in-Some.state at) in
     let known : IsBlockAs c.in-Some.state (it.place t.address.block) (it.filling t.address.block) (it.stats t.address.block) = stands.manager.sets.blocks t.address.block c.in-Some.state at in
-    let as_issued : length c.in-Ok.bytes.items ≡ page_up t.address.len = omega (arith, c.if-len-read_len.false, c.read_len.ensures.pages, c.len.ensures) in
+    let as_issued : length c.in-Ok.bytes.items ≡ t.address.len = omega (arith, c.if-len-read_len.false, c.read_len.ensures, c.len.ensures) in
     let whole : IsReadAs g.K.Code.is_decodable g.V.Code.is_decodable g.K.Code.encoding g.V.Code.encoding g.K.Code.is_encodable g.V.Code.is_encodable (take t.address.len c.in-Ok.bytes.items) t.hash t.address.sequence c.args.judged.found =
     subst (λ o. IsJudged g.K.Code.is_decodable g.V.Code.is_decodable g.K.Code.encoding g.V.Code.encoding g.K.Code.is_encodable g.V.Code.is_encodable t o c.args.judged.found) c.in-Ok.is c.requires as_issued in
     let filling : t.address.filling ≡ it.filling t.address.block = sym c.if-state-address.false ∙ sym known.filling in
@@ -102,7 +101,7 @@ returns-in-Err-found-clause-meets g c = λ age_of s sound it stands few.
     let at : slice_get old.manager.blocks t.address.block ≡ Some c.in-Some.state = sym c.known.ensures ∙ c.in-Some.is in
     let there : t.address.block < s.blocks = subst (λ n. t.address.block < n) stands.manager.blocks (slice_get_within old.manager.blocks t.address.block c.in-Some.state at) in
     let known : IsBlockAs c.in-Some.state (it.place t.address.block) (it.filling t.address.block) (it.stats t.address.block) = stands.manager.sets.blocks t.address.block c.in-Some.state at in
-    let as_issued : length c.in-Ok.bytes.items ≡ page_up t.address.len = omega (arith, c.if-len-read_len.false, c.read_len.ensures.pages, c.len.ensures) in
+    let as_issued : length c.in-Ok.bytes.items ≡ t.address.len = omega (arith, c.if-len-read_len.false, c.read_len.ensures, c.len.ensures) in
     let whole : IsReadAs g.K.Code.is_decodable g.V.Code.is_decodable g.K.Code.encoding g.V.Code.encoding g.K.Code.is_encodable g.V.Code.is_encodable (take t.address.len c.in-Ok.bytes.items) t.hash t.address.sequence c.args.judged.found =
     subst (λ o. IsJudged g.K.Code.is_decodable g.V.Code.is_decodable g.K.Code.encoding g.V.Code.encoding g.K.Code.is_encodable g.V.Code.is_encodable t o c.args.judged.found) c.in-Ok.is c.requires as_issued in
     let filling : t.address.filling ≡ it.filling t.address.block = sym c.if-state-address.false ∙ sym known.filling in

@@ -4,7 +4,6 @@ use Rattle.foyer_block_index.proofs.Rooms.{kept_itself}
 use Rattle.foyer_device_page.specs.declared.error.ErrorKind.TheVariants as kind
 use Rattle.foyer_core_flusher.specs.Seen.{seen}
 use Rattle.foyer_core_flusher.specs.declared.submission.Submission.TheVariants.{Reinsertion}
-use Rattle.foyer_format_layout.specs.Page.{page_up}
 use Rattle.foyer_core_model.specs.Reclaim.{issued_at}
 use Rattle.foyer_core_model.specs.State as model_state
 use Rattle.foyer_core_flusher.specs.CoreRules.{machine}
@@ -17,6 +16,7 @@ use Rattle.foyer_core_steps.specs.Scanning.{HasNoVerdicts, scan_reply}
 use Rattle.foyer_core_steps.specs.declared.step.Step.TheVariants as step
 use Rattle.foyer_core_steps.proofs.JudgedLemmas.{scan_unjudged}
 use Rattle.foyer_core_steps.proofs.FlusherLists.{same_seen}
+use Rattle.foyer_core_steps.proofs.LoadLemmas.{all_bytes}
 use Rattle.foyer_core_steps.proofs.QueueLemmas.{queue_pushed_at}
 use Rattle.foyer_core_steps.proofs.ReclaimCame.{follows_at}
 use Rattle.foyer_core_steps.proofs.ReclaimRecord.{reinserted, turn_of, next_reclaim, requeued_state, record_turn, rereads, would_requeue, has_queued}
@@ -63,8 +63,8 @@ returns-in-Err-clause-back g c =
       },
     )
 
-pub returns-then-len-record_pages-clause-meets : goal.returns-then-len-record_pages-clause-meets
-returns-then-len-record_pages-clause-meets g c = λ m s sound it stands few.
+pub returns-then-len-entry-clause-meets : goal.returns-then-len-entry-clause-meets
+returns-then-len-entry-clause-meets g c = λ m s sound it stands few.
     let core = c.args.self.now in
     let b = c.args.block in
     let e = c.args.entry in
@@ -74,8 +74,8 @@ returns-then-len-record_pages-clause-meets g c = λ m s sound it stands few.
       is_early m s core it stands few,
       (λ draws. absurd draws),
       (λ turn.
-          let long : length c.args.bytes.items ≡ page_up e.address.len = not_as_long_record m s sound b (it.place b) (it.filling b) (reclaim_at core.reclaims b) (it.reclaims b) e c.args.bytes.items reads turn.1 in
-          c.if-len-record_pages.true (omega (arith, long, c.len.ensures, c.record_pages.ensures))),
+          let long : length c.args.bytes.items ≡ e.address.len = not_as_long_record m s sound b (it.place b) (it.filling b) (reclaim_at core.reclaims b) (it.reclaims b) e c.args.bytes.items reads turn.1 in
+          c.if-len-entry.true (omega (arith, long, c.len.ensures))),
     ))
 
 pub returns-then-is_err-clause-meets : goal.returns-then-is_err-clause-meets
@@ -84,7 +84,7 @@ returns-then-is_err-clause-meets g c = λ m s sound it stands few.
     let b = c.args.block in
     let e = c.args.entry in
     let reads = reads_record m s sound b (it.place b) (it.filling b) (reclaim_at core.reclaims b) (it.reclaims b) e (stands.reclaims b) c.requires in
-    let long : length c.args.bytes.items ≡ page_up e.address.len = omega (arith, c.len.ensures, c.record_pages.ensures, c.if-len-record_pages.false) in
+    let long : length c.args.bytes.items ≡ e.address.len = omega (arith, c.len.ensures, c.if-len-entry.false) in
     comes_back m s sound (step.ReclaimRead b (Ok c.args.bytes)) _ kind.Memory _ it c.reclaim_read-then-is_err.ensures
     (refused m s sound (step.ReclaimRead b (Ok c.args.bytes)) core _ it kind.Memory model_reply.Memory refl
     (returns-then-is_err-clause-back g c).1 stands
@@ -96,7 +96,7 @@ returns-in-Err-clause-meets g c = λ m s sound it stands few.
     let b = c.args.block in
     let e = c.args.entry in
     let reads = reads_record m s sound b (it.place b) (it.filling b) (reclaim_at core.reclaims b) (it.reclaims b) e (stands.reclaims b) c.requires in
-    let long : length c.args.bytes.items ≡ page_up e.address.len = omega (arith, c.len.ensures, c.record_pages.ensures, c.if-len-record_pages.false) in
+    let long : length c.args.bytes.items ≡ e.address.len = omega (arith, c.len.ensures, c.if-len-entry.false) in
     comes_back m s sound (step.ReclaimRead b (Ok c.args.bytes)) _ kind.Memory _ it c.reclaim_read-in-Err.ensures
     (refused m s sound (step.ReclaimRead b (Ok c.args.bytes)) core _ it kind.Memory model_reply.Memory refl
     (returns-in-Err-clause-back g c).1 stands
@@ -111,7 +111,7 @@ returns-in-Ok-clause-meets g c = λ m s sound it stands few.
     let o = reclaim_at core.reclaims b in
     let found = c.index_mut.result.now in
     let reads = reads_record m s sound b (it.place b) (it.filling b) o (it.reclaims b) e (stands.reclaims b) c.requires in
-    let long : length bytes ≡ page_up e.address.len = omega (arith, c.len.ensures, c.record_pages.ensures, c.if-len-record_pages.false) in
+    let long : length bytes ≡ e.address.len = omega (arith, c.len.ensures, c.if-len-entry.false) in
     let count : length core.flushers.items ≡ s.flushers = flushers_count m s core.flushers.items it.flushers stands.flushers in
     let len : vec_len core.flushers ≡ length core.flushers.items = omega (arith, core.flushers.ok.0) in
     let number : c.turn_of-flusher.result ≡ requeue_count reads.ours % vec_len core.flushers =
@@ -120,8 +120,8 @@ returns-in-Ok-clause-meets g c = λ m s sound it stands few.
     number ∙ ap (λ n. n % vec_len core.flushers) (sym reads.stands_as.count) ∙ ap (λ n. length reads.model.requeued % n) (len ∙ count) in
     let within : c.turn_of-flusher.result < length core.flushers.items = omega (arith, c.turn_of-flusher.ensures.within, core.flushers.ok.0) in
     let there : turn_of m s sound it b o e bytes reads < s.flushers = subst (λ k. k < s.flushers) at (subst (λ n. c.turn_of-flusher.result < n) count within) in
-    let slice : c.truncate.new.self.items ≡ take e.address.len bytes = c.truncate.ensures.items in
-    let queued = Reinsertion (record { hash = e.hash; address = e.address; slice = c.truncate.new.self }) in
+    let slice : bytes ≡ take e.address.len bytes = sym (all_bytes e.address.len bytes long) in
+    let queued = Reinsertion (record { hash = e.hash; address = e.address; slice = c.args.bytes }) in
     let x = reinserted m s sound it b o e bytes reads in
     let flushers = queue_pushed_at m s core.flushers.items it.flushers c.turn_of-flusher.result (turn_of m s sound it b o e bytes reads) found _ queued x
     at (ap (λ bs. model_state.Reinsert e.hash bs (address_of e.address)) slice) stands.flushers within c.index_mut.ensures.value

@@ -1,0 +1,17 @@
+pub mod Options
+pub mod Fields
+pub mod Items
+pub mod Lines
+pub mod Decimals
+pub mod Keys
+pub mod Flags
+pub mod FlagTexts
+pub mod Values
+pub mod Results
+pub mod Laws
+pub mod Turns
+pub mod Orders
+pub mod Streams
+pub mod Spelled
+pub mod Sent
+pub mod Blanks

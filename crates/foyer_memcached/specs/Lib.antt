@@ -1,0 +1,17 @@
+pub mod Numbers
+pub mod Item
+pub mod Words
+pub mod Steps
+pub mod Expiry
+pub mod Asked
+pub mod Meta
+pub mod Lines
+pub mod Command
+pub mod Input
+pub mod Turn
+pub mod Reply
+pub mod MetaReply
+pub mod Answers
+pub mod Window
+pub mod Bytes
+pub mod Key
