@@ -200,25 +200,17 @@ where
         }
     }
 
-    fn delete(&self, rt: &impl Wait, session: &mut TwoSessions<S, T>, hash: u64) -> Result<()> {
-        if is_high(hash, self.bit) {
-            self.high.delete(rt, &mut session.high, hash)
-        } else {
-            self.low.delete(rt, &mut session.low, hash)
-        }
-    }
-
-    fn remove(
+    fn delete(
         &self,
         rt: &impl Wait,
         session: &mut TwoSessions<S, T>,
-        keeper: &Keeper<K, V, P, Global>,
+        kept: Option<&Keeper<K, V, P, Global>>,
         hash: u64,
     ) -> Result<()> {
         if is_high(hash, self.bit) {
-            self.high.remove(rt, &mut session.high, keeper, hash)
+            self.high.delete(rt, &mut session.high, kept, hash)
         } else {
-            self.low.remove(rt, &mut session.low, keeper, hash)
+            self.low.delete(rt, &mut session.low, kept, hash)
         }
     }
 

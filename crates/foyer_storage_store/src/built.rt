@@ -299,19 +299,19 @@ where
             .load_by(rt, &mut session.steps, lacking.hash(), throttled, disk)
     }
 
-    fn delete(&self, rt: &impl Wait, session: &mut StoreSession<L>, hash: u64) -> Result<()> {
-        self.engine.delete(rt, &mut session.steps, hash)
-    }
-
-    fn remove(
+    fn delete(
         &self,
         rt: &impl Wait,
         session: &mut StoreSession<L>,
-        keeper: &Keeper<K, V, P, Global>,
+        kept: Option<&Keeper<K, V, P, Global>>,
         hash: u64,
     ) -> Result<()> {
-        self.engine
-            .delete_kept(rt, &mut session.steps, keeper, hash)
+        match kept {
+            Some(keeper) => self
+                .engine
+                .delete_kept(rt, &mut session.steps, keeper, hash),
+            None => self.engine.delete(rt, &mut session.steps, hash),
+        }
     }
 
     fn may_contains(

@@ -101,17 +101,13 @@ pub trait Engine<S: Drop, K: Eq, V, P>: Drop {
         ensures answered { may_load self.now session.old session.new lacking.hash result }
         ensures refused { IfErr result (λ e. is_load_error e ≡ true) };
 
-    /// Accepts a delete of a hash. Errors: `Closed`; `Memory`; `SequenceEnd`.
-    fn delete(&self, rt: &impl Wait, session: &mut S, hash: u64) -> Result<()>
-        ensures answered { may_delete self.now session.old session.new hash result }
-        ensures refused { IfErr result (λ e. is_draw_error e ≡ true) };
-
-    /// Accepts a delete of a hash, and takes the hash's pieces out of this keeper. Errors: `Closed`; `Memory`; `SequenceEnd`.
-    fn remove(
+    /// Accepts a delete of a hash. If a keeper is given, it also takes the hash's pieces out of the keeper, in the same hold of their shard's
+    /// lock. Errors: `Closed`; `Memory`; `SequenceEnd`.
+    fn delete(
         &self,
         rt: &impl Wait,
         session: &mut S,
-        keeper: &Keeper<K, V, P, Global>,
+        kept: Option<&Keeper<K, V, P, Global>>,
         hash: u64,
     ) -> Result<()>
         ensures answered { may_delete self.now session.old session.new hash result }

@@ -109,15 +109,11 @@ impl<L: Kinds, K: Eq + Drop, V: Drop, P: Drop> Engine<StoreSession<L>, K, V, P> 
         Ok(Load::Miss)
     }
 
-    fn delete(&self, _rt: &impl Wait, _session: &mut StoreSession<L>, _hash: u64) -> Result<()> {
-        Ok(())
-    }
-
-    fn remove(
+    fn delete(
         &self,
         _rt: &impl Wait,
         _session: &mut StoreSession<L>,
-        _keeper: &Keeper<K, V, P, Global>,
+        _kept: Option<&Keeper<K, V, P, Global>>,
         _hash: u64,
     ) -> Result<()> {
         Ok(())

@@ -312,7 +312,7 @@ impl<N: Drop, K: Eq + Drop, V: Drop, P: Drop, H: Drop> Store<N, K, V, P, H> {
             inner.calls.add_put(piece.hash(), enqueued);
             return Ok(enqueued);
         }
-        inner.engine.delete(rt, session, piece.hash())?;
+        inner.engine.delete(rt, session, None, piece.hash())?;
         inner.calls.add_rejected(piece.hash());
         Ok(Enqueued::Deleted)
     }
@@ -362,7 +362,7 @@ impl<N: Drop, K: Eq + Drop, V: Drop, P: Drop, H: Drop> Store<N, K, V, P, H> {
         ensures refused { IfErr result (λ e. is_draw_error e ≡ true) }
     {
         let hash = self.shared.hasher.hash_one(key);
-        let deleted = self.shared.engine.delete(rt, session, hash);
+        let deleted = self.shared.engine.delete(rt, session, None, hash);
         if deleted.is_ok() {
             self.shared.calls.add_delete(hash);
         }
@@ -381,7 +381,7 @@ impl<N: Drop, K: Eq + Drop, V: Drop, P: Drop, H: Drop> Store<N, K, V, P, H> {
     {
         let inner = &self.shared;
         let hash = inner.hasher.hash_one(key);
-        let removed = inner.engine.remove(rt, session, &inner.keeper, hash);
+        let removed = inner.engine.delete(rt, session, Some(&*inner.keeper), hash);
         if removed.is_ok() {
             inner.calls.add_delete(hash);
         }

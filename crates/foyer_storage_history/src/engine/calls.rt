@@ -116,20 +116,13 @@ where
         &self,
         rt: &impl Wait,
         session: &mut HistorySession<J, L, K, V, P, D>,
+        kept: Option<&Keeper<K, V, P, Global>>,
         hash: u64,
     ) -> Result<()> {
-        self.delete_hash(rt, session, hash)
-    }
-
-    #[tactic(auto, using(crate::proofs::HistoryLemmas::nil_is))]
-    fn remove(
-        &self,
-        rt: &impl Wait,
-        session: &mut HistorySession<J, L, K, V, P, D>,
-        keeper: &Keeper<K, V, P, Global>,
-        hash: u64,
-    ) -> Result<()> {
-        self.delete_kept(rt, session, keeper, hash)
+        match kept {
+            Some(keeper) => self.delete_kept(rt, session, keeper, hash),
+            None => self.delete_hash(rt, session, hash),
+        }
     }
 
     #[tactic(auto, using(crate::proofs::HistoryLemmas::nil_is))]
