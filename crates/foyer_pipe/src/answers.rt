@@ -324,10 +324,11 @@ where
 
 /// Whether puts were abandoned since the moment at which this caller was told last, which is now.
 pub(crate) fn notice_abandoned<S: Drop, N: Engine<S, Bytes, Bytes, NoProperties>>(
+    rt: &impl Wait,
     cache: &Cache<N>,
     noticed: &mut AbandonedPuts,
 ) -> bool {
-    let abandoned = cache.abandoned::<S>();
+    let abandoned = cache.abandoned::<S>(rt);
     let since = abandoned.since(&*noticed);
     *noticed = abandoned;
     !since.is_none()
@@ -344,7 +345,7 @@ fn wait<S: Drop, N: Engine<S, Bytes, Bytes, NoProperties>>(
         × (abandoned : Bool) × (result ≡ done_unless_abandoned waited abandoned) }
 {
     let waited = cache.wait(rt, session);
-    let is_abandoned = waited.is_ok() && notice_abandoned::<S, N>(cache, noticed);
+    let is_abandoned = waited.is_ok() && notice_abandoned::<S, N>(rt, cache, noticed);
     done_unless_abandoned(waited, is_abandoned)
 }
 
@@ -359,7 +360,7 @@ pub(crate) fn close<S: Drop, N: Engine<S, Bytes, Bytes, NoProperties>>(
         × (abandoned : Bool) × (result ≡ done_unless_abandoned closed abandoned) }
 {
     let closed = cache.close(rt, session);
-    let is_abandoned = closed.is_ok() && notice_abandoned::<S, N>(cache, noticed);
+    let is_abandoned = closed.is_ok() && notice_abandoned::<S, N>(rt, cache, noticed);
     done_unless_abandoned(closed, is_abandoned)
 }
 

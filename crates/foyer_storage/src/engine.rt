@@ -3,8 +3,8 @@ pub use foyer_block::block::recover::RecoverMode;
 pub use foyer_storage_build::config::{
     BlockEngineConfig, BlockFlusher, BlockListings, BlockOpening, BlockReclaimer, BlockRecoverer,
     Built, BuiltEngine, DefaultPickers, DeviceBlocks, DeviceEngine, DeviceLog, DeviceSummary,
-    Engine, EngineBuildContext, EngineConfig, GivenPickers, NoopEngine, NoopEngineConfig,
-    NoopOpening, PickerSource, RecoveredBlocks, Recovering,
+    Engine, EngineBuildContext, EngineConfig, EngineWork, GivenPickers, NoopEngine,
+    NoopEngineConfig, NoopOpening, PickerSource, RecoveredBlocks, Recovering,
 };
 pub use foyer_storage_build::engine::bell::Bell;
 pub use foyer_storage_build::engine::core_steps::settings::{

@@ -112,6 +112,7 @@ pub use crate::engine::Engine;
 pub use crate::engine::EngineBuildContext;
 pub use crate::engine::EngineConfig;
 pub use crate::engine::EngineSizes;
+pub use crate::engine::EngineWork;
 pub use crate::engine::Enqueued;
 pub use crate::engine::FlusherParts;
 pub use crate::engine::FlusherWorker;

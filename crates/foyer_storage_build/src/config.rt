@@ -22,7 +22,7 @@ use foyer_device_statistics::Statistics;
 use foyer_device_throttle::Throttle;
 use foyer_policy_keeper::keeper::Keeper;
 pub use foyer_storage_store::built::{BuiltEngine, DeviceBlocks, DeviceEngine};
-pub use foyer_storage_store::calls::{DeviceSummary, Engine};
+pub use foyer_storage_store::calls::{DeviceSummary, Engine, EngineWork};
 use foyer_storage_store::engine::core_steps::open::RecoverMode;
 use foyer_storage_store::engine::engine::signals::Signals;
 pub use foyer_storage_store::noop::NoopEngine;

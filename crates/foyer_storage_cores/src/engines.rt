@@ -9,7 +9,7 @@ use foyer_policy_filter::StorageFilterResult;
 use foyer_policy_keeper::keeper::Keeper;
 use foyer_policy_keeper::keeper::shard::NotKept;
 use foyer_policy_piece::keeper::Piece;
-use foyer_storage_store::calls::{DeviceSummary, Engine};
+use foyer_storage_store::calls::{DeviceSummary, Engine, EngineWork};
 use foyer_storage_store::engine::engine::Enqueued;
 use foyer_storage_store::engine::engine::counts::WorkCounts;
 use foyer_storage_store::engine::load::Load;
@@ -135,10 +135,12 @@ where
         }
     }
 
-    fn work(&self) -> WorkCounts {
-        let low = self.low.work();
-        let high = self.high.work();
-        WorkCounts {
+    fn work(&self, rt: &impl Wait, hash: u64) -> EngineWork {
+        let low_work = self.low.work(rt, hash);
+        let high_work = self.high.work(rt, hash);
+        let low = low_work.counts;
+        let high = high_work.counts;
+        let counts = WorkCounts {
             batches: low.batches.wrapping_add(high.batches),
             failed_blocks: low.failed_blocks.wrapping_add(high.failed_blocks),
             returned_puts: low.returned_puts.wrapping_add(high.returned_puts),
@@ -151,15 +153,13 @@ where
             reclaims: low.reclaims.wrapping_add(high.reclaims),
             reinsertions: low.reinsertions.wrapping_add(high.reinsertions),
             failed_appends: low.failed_appends.wrapping_add(high.failed_appends),
-        }
-    }
-
-    fn has_room(&self, rt: &impl Wait, hash: u64) -> bool {
-        if is_high(hash, self.bit) {
-            self.high.has_room(rt, hash)
+        };
+        let has_room = if is_high(hash, self.bit) {
+            high_work.has_room
         } else {
-            self.low.has_room(rt, hash)
-        }
+            low_work.has_room
+        };
+        EngineWork { counts, has_room }
     }
 
     fn filter(&self, rt: &impl Wait, hash: u64, size: usize, now: u64) -> StorageFilterResult {
@@ -204,13 +204,16 @@ where
         &self,
         rt: &impl Wait,
         session: &mut TwoSessions<S, T>,
-        kept: Option<&Keeper<K, V, P, Global>>,
+        keeper: &Keeper<K, V, P, Global>,
         hash: u64,
+        with_pieces: bool,
     ) -> Result<()> {
         if is_high(hash, self.bit) {
-            self.high.delete(rt, &mut session.high, kept, hash)
+            self.high
+                .delete(rt, &mut session.high, keeper, hash, with_pieces)
         } else {
-            self.low.delete(rt, &mut session.low, kept, hash)
+            self.low
+                .delete(rt, &mut session.low, keeper, hash, with_pieces)
         }
     }
 

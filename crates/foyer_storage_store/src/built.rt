@@ -4,7 +4,7 @@ ghost use Rattle.std.specs.Duration.{as_nanos};
 ghost use Rattle.foyer_policy_filter.specs.Conditions.{IsThrottledBy};
 ghost use Rattle.foyer_storage_store.specs.Storing.{IsAdmission, IsVerdictWithWait};
 
-use crate::calls::{DeviceSummary, Engine};
+use crate::calls::{DeviceSummary, Engine, EngineWork};
 use crate::session::StoreSession;
 use foyer_block_manager::block::eviction::EvictionPicker;
 use foyer_core_tally::book::Kinds;
@@ -24,7 +24,6 @@ use foyer_policy_keeper::keeper::shard::NotKept;
 use foyer_policy_piece::keeper::Piece;
 use foyer_storage_engine::core_shared::notes::NoNotes;
 use foyer_storage_engine::core_steps::apply::no_io;
-use foyer_storage_engine::engine::counts::WorkCounts;
 use foyer_storage_engine::engine::{BlockEngine, Enqueued};
 use foyer_storage_engine::io_disk::disk::Disk;
 use foyer_storage_engine::load::Load;
@@ -252,10 +251,6 @@ where
         lock_spinning(&self.recorder, rt).io_state(rt, now)
     }
 
-    fn has_room(&self, rt: &impl Wait, _hash: u64) -> bool {
-        self.engine.has_room(rt)
-    }
-
     fn filter(&self, rt: &impl Wait, hash: u64, size: usize, now: u64) -> StorageFilterResult {
         let is_limited = self.limits_writes();
         if self.admission.is_none() && !is_limited {
@@ -269,8 +264,11 @@ where
         }
     }
 
-    fn work(&self) -> WorkCounts {
-        self.engine.signals().work.shown()
+    fn work(&self, rt: &impl Wait, _hash: u64) -> EngineWork {
+        EngineWork {
+            counts: self.engine.signals().work.shown(),
+            has_room: self.engine.has_room(rt),
+        }
     }
 
     fn enqueue(
@@ -303,14 +301,15 @@ where
         &self,
         rt: &impl Wait,
         session: &mut StoreSession<L>,
-        kept: Option<&Keeper<K, V, P, Global>>,
+        keeper: &Keeper<K, V, P, Global>,
         hash: u64,
+        with_pieces: bool,
     ) -> Result<()> {
-        match kept {
-            Some(keeper) => self
-                .engine
-                .delete_kept(rt, &mut session.steps, keeper, hash),
-            None => self.engine.delete(rt, &mut session.steps, hash),
+        if with_pieces {
+            self.engine
+                .delete_kept(rt, &mut session.steps, keeper, hash)
+        } else {
+            self.engine.delete(rt, &mut session.steps, hash)
         }
     }
 

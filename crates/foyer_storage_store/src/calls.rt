@@ -22,6 +22,15 @@ pub struct DeviceSummary {
     pub partitions: usize,
 }
 
+/// What an engine's threads did, and whether its queue has room.
+#[derive(Clone, Copy, Debug)]
+pub struct EngineWork {
+    /// What its threads did since it was opened.
+    pub counts: WorkCounts,
+    /// Whether a put of the hash that was asked for would find room in the queue.
+    pub has_room: bool,
+}
+
 /// The calls of an engine, which threads share by reference, each with a session of this type.
 pub trait Engine<S: Drop, K: Eq, V, P>: Drop {
     ghost use Rattle.std.specs.Prelude.{◌≡◌, ℕ, Bool, true, false, Result, IfErr};
@@ -66,11 +75,8 @@ pub trait Engine<S: Drop, K: Eq, V, P>: Drop {
     /// The counters of its device, and how long its limits make callers wait at a moment in nanoseconds.
     fn io_state(&self, rt: &impl Wait, now: u64) -> IoState;
 
-    /// What its threads did since it was opened.
-    fn work(&self) -> WorkCounts;
-
-    /// Whether a put of that hash would find room in the queue now.
-    fn has_room(&self, rt: &impl Wait, hash: u64) -> bool;
+    /// What its threads did since it was opened, and whether a put of that hash would find room in the queue now.
+    fn work(&self, rt: &impl Wait, hash: u64) -> EngineWork;
 
     /// What its admission filter, and then its limits of writes, say of an entry of that hash and size in bytes, at a moment.
     fn filter(&self, rt: &impl Wait, hash: u64, size: usize, now: u64) -> StorageFilterResult
@@ -101,14 +107,15 @@ pub trait Engine<S: Drop, K: Eq, V, P>: Drop {
         ensures answered { may_load self.now session.old session.new lacking.hash result }
         ensures refused { IfErr result (λ e. is_load_error e ≡ true) };
 
-    /// Accepts a delete of a hash. If a keeper is given, it also takes the hash's pieces out of the keeper, in the same hold of their shard's
-    /// lock. Errors: `Closed`; `Memory`; `SequenceEnd`.
+    /// Accepts a delete of a hash. If its pieces go with it, it also takes them out of this keeper, in the same hold of their shard's lock.
+    /// Errors: `Closed`; `Memory`; `SequenceEnd`.
     fn delete(
         &self,
         rt: &impl Wait,
         session: &mut S,
-        kept: Option<&Keeper<K, V, P, Global>>,
+        keeper: &Keeper<K, V, P, Global>,
         hash: u64,
+        with_pieces: bool,
     ) -> Result<()>
         ensures answered { may_delete self.now session.old session.new hash result }
         ensures refused { IfErr result (λ e. is_draw_error e ≡ true) };

@@ -1,7 +1,7 @@
 //! An engine that keeps nothing.
 ghost use Rattle.std.specs.Prelude.{◌≡◌};
 
-use crate::calls::{DeviceSummary, Engine};
+use crate::calls::{DeviceSummary, Engine, EngineWork};
 use crate::session::StoreSession;
 use foyer_core_tally::book::{Books, Kinds};
 use foyer_device_page::error::Result;
@@ -76,12 +76,11 @@ impl<L: Kinds, K: Eq + Drop, V: Drop, P: Drop> Engine<StoreSession<L>, K, V, P> 
         no_io()
     }
 
-    fn work(&self) -> WorkCounts {
-        WorkCounts::default()
-    }
-
-    fn has_room(&self, _rt: &impl Wait, _hash: u64) -> bool {
-        true
+    fn work(&self, _rt: &impl Wait, _hash: u64) -> EngineWork {
+        EngineWork {
+            counts: WorkCounts::default(),
+            has_room: true,
+        }
     }
 
     fn filter(&self, _rt: &impl Wait, _hash: u64, _size: usize, _now: u64) -> StorageFilterResult {
@@ -113,8 +112,9 @@ impl<L: Kinds, K: Eq + Drop, V: Drop, P: Drop> Engine<StoreSession<L>, K, V, P> 
         &self,
         _rt: &impl Wait,
         _session: &mut StoreSession<L>,
-        _kept: Option<&Keeper<K, V, P, Global>>,
+        _keeper: &Keeper<K, V, P, Global>,
         _hash: u64,
+        _with_pieces: bool,
     ) -> Result<()> {
         Ok(())
     }

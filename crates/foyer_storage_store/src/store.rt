@@ -180,16 +180,17 @@ impl<N: Drop, K: Eq + Drop, V: Drop, P: Drop, H: Drop> Store<N, K, V, P, H> {
         N: Engine<S, K, V, P>,
     {
         let io = self.shared.engine.io_state(rt, now);
-        self.shared.calls.with(&io, self.shared.engine.work())
+        let work = self.shared.engine.work(rt, 0);
+        self.shared.calls.with(&io, work.counts)
     }
 
     /// Which puts were queued and then abandoned since the store was built. A put is counted before the wait that covers it ends. No clause
     /// says what these numbers are.
-    pub fn abandoned<S: Drop>(&self) -> AbandonedPuts
+    pub fn abandoned<S: Drop>(&self, rt: &impl Wait) -> AbandonedPuts
     where
         N: Engine<S, K, V, P>,
     {
-        abandoned_of(&self.shared.engine.work())
+        abandoned_of(&self.shared.engine.work(rt, 0).counts)
     }
 
     /// Whether a put of this key would find room in the queue now. If it finds none, the put isn't taken, and its key is deleted. So a
@@ -200,7 +201,7 @@ impl<N: Drop, K: Eq + Drop, V: Drop, P: Drop, H: Drop> Store<N, K, V, P, H> {
         H: HashBuilder<K>,
     {
         let hash = self.shared.hasher.hash_one(key);
-        self.shared.engine.has_room(rt, hash)
+        self.shared.engine.work(rt, hash).has_room
     }
 
     /// The hash of a key.
@@ -312,7 +313,9 @@ impl<N: Drop, K: Eq + Drop, V: Drop, P: Drop, H: Drop> Store<N, K, V, P, H> {
             inner.calls.add_put(piece.hash(), enqueued);
             return Ok(enqueued);
         }
-        inner.engine.delete(rt, session, None, piece.hash())?;
+        inner
+            .engine
+            .delete(rt, session, &inner.keeper, piece.hash(), false)?;
         inner.calls.add_rejected(piece.hash());
         Ok(Enqueued::Deleted)
     }
@@ -361,10 +364,11 @@ impl<N: Drop, K: Eq + Drop, V: Drop, P: Drop, H: Drop> Store<N, K, V, P, H> {
         ensures answered { N.may_delete (arc_value self.now.shared).engine session.old session.new (H.hash_of (arc_value self.now.shared).hasher key.now) result }
         ensures refused { IfErr result (λ e. is_draw_error e ≡ true) }
     {
-        let hash = self.shared.hasher.hash_one(key);
-        let deleted = self.shared.engine.delete(rt, session, None, hash);
+        let inner = &self.shared;
+        let hash = inner.hasher.hash_one(key);
+        let deleted = inner.engine.delete(rt, session, &inner.keeper, hash, false);
         if deleted.is_ok() {
-            self.shared.calls.add_delete(hash);
+            inner.calls.add_delete(hash);
         }
         deleted
     }
@@ -381,7 +385,7 @@ impl<N: Drop, K: Eq + Drop, V: Drop, P: Drop, H: Drop> Store<N, K, V, P, H> {
     {
         let inner = &self.shared;
         let hash = inner.hasher.hash_one(key);
-        let removed = inner.engine.delete(rt, session, Some(&*inner.keeper), hash);
+        let removed = inner.engine.delete(rt, session, &inner.keeper, hash, true);
         if removed.is_ok() {
             inner.calls.add_delete(hash);
         }

@@ -14,9 +14,8 @@ use foyer_policy_keeper::keeper::Keeper;
 use foyer_policy_keeper::keeper::shard::NotKept;
 use foyer_policy_piece::keeper::Piece;
 use foyer_storage_engine::engine::Enqueued;
-use foyer_storage_engine::engine::counts::WorkCounts;
 use foyer_storage_engine::load::Load;
-use foyer_storage_store::calls::{DeviceSummary, Engine};
+use foyer_storage_store::calls::{DeviceSummary, Engine, EngineWork};
 use std::alloc::Global;
 use std::sync::Wait;
 
@@ -75,13 +74,12 @@ where
         no_io()
     }
 
-    fn work(&self) -> WorkCounts {
-        self.work.shown()
-    }
-
     // A put that finds too much queued writes a batch first.
-    fn has_room(&self, _rt: &impl Wait, _hash: u64) -> bool {
-        true
+    fn work(&self, _rt: &impl Wait, _hash: u64) -> EngineWork {
+        EngineWork {
+            counts: self.work.shown(),
+            has_room: true,
+        }
     }
 
     fn filter(&self, _rt: &impl Wait, _hash: u64, _size: usize, _now: u64) -> StorageFilterResult {
@@ -116,12 +114,14 @@ where
         &self,
         rt: &impl Wait,
         session: &mut HistorySession<J, L, K, V, P, D>,
-        kept: Option<&Keeper<K, V, P, Global>>,
+        keeper: &Keeper<K, V, P, Global>,
         hash: u64,
+        with_pieces: bool,
     ) -> Result<()> {
-        match kept {
-            Some(keeper) => self.delete_kept(rt, session, keeper, hash),
-            None => self.delete_hash(rt, session, hash),
+        if with_pieces {
+            self.delete_kept(rt, session, keeper, hash)
+        } else {
+            self.delete_hash(rt, session, hash)
         }
     }
 

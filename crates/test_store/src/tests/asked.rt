@@ -250,7 +250,7 @@ fn say_store<S: CallerSession, N: Engine<S, u128, String, NoProperties>>(
         "hash" => said.number("hash ", store.hash_of(&key)),
         "device" => say_device(said, store.device::<S>()),
         "room" => said.flag("", store.has_room::<S>(rt, &key)),
-        "abandoned" => say_abandoned(said, &store.abandoned::<S>()),
+        "abandoned" => say_abandoned(said, &store.abandoned::<S>(rt)),
         "judge" => say_verdict(said, store.filter::<S>(rt, &key, 60, now)),
         "counts" => {
             let counts = store.counters::<S>(rt, now);
