@@ -18,11 +18,12 @@
 //!   32 bits; here these are refused. It cuts an expiry to 32 bits and takes 2^31 and more for a moment that has passed; here it is a moment of Unix time,
 //!   at most 2^32 - 1.
 //! - *Errors*: a `noreply` in the place of a line's last number hides the error there, and here only behind it. `gat` without a key is an error here. If
-//!   several flags are wrong, it tells the first that is unknown or repeated, or else the last; here it tells the first. Its `ma` counts even though it
-//!   then refuses a long `O`. More than 17 flags are too many for it.
+//!   several flags are wrong, it tells the first that is unknown or repeated, or else the last; here the first wrong one is told. Its `ma` counts even
+//!   if it then refuses a long `O`. More than 17 flags are too many for it.
 //! - *Values*: if a value is too large, it drops the item for each mode of `ms`; here only for a set without a version. If `append` or `prepend` make a
 //!   value too large, it stores nothing; here they store, and the caller decides what is too large.
-//! - *Meta flags*: it knows `h`, `l`, `R` and `I`, and `N` of `mg`, which speak of its memory or mark an item as stale; here they aren't known. `q` hides
+//! - *Meta flags*: it applies `N` and `T` to a new item of `ma` in their order, and a `t` before them tells the expiry before; here the item has the
+//!   expiry of `N`. It knows `h`, `l`, `R` and `I`, and `N` of `mg`, which speak of its memory or mark an item as stale; here they aren't known. `q` hides
 //!   a new number of `ma` here, too. `me` tells no time, class or fetch here, and for the size that of the value.
 //! - *Binary keys*: it reads base64 whose last bits aren't zero, as in `ab==`, or that ends early, as in `ab=c`, and tells the key as it was first
 //!   stored; here such a key isn't base64, and a key is told as the command wrote it. For a key that isn't base64 its `md` and `ma` tell `BadFlags`
