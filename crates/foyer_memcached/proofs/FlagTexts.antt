@@ -1,5 +1,5 @@
 -- What flags tell, one word at a time.
-use Rattle.std.proofs.Common.{◌≡◌, ℕ, List, [], ◌∷◌, ◌++◌, refl, sym, ap, ◌∙◌, append_assoc}
+use Rattle.std.proofs.Common.{◌≡◌, ℕ, List, [], ◌∷◌, ◌++◌, sym, ap, ◌∙◌, append_assoc}
 use Rattle.std.proofs.lemmas.List.{append-nil}
 use Rattle.foyer_memcached.specs.declared.meta.Options.{Options}
 use Rattle.foyer_memcached.specs.declared.meta_reply.Facts.{Facts}

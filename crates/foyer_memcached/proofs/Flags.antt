@@ -1,5 +1,5 @@
 -- The flags of a meta command, one word at a time.
-use Rattle.std.proofs.Common.{◌≡◌, ◌≢◌, ℕ, Bool, true, false, cond, eqb, List, [], ◌∷◌, Result, Ok, Err, refl, sym, ap, ◌∙◌}
+use Rattle.std.proofs.Common.{◌≡◌, ◌≢◌, ℕ, Bool, true, false, cond, List, [], ◌∷◌, Result, Ok, Err, sym, ap, ◌∙◌}
 use Rattle.std.proofs.lemmas.Bool.{ne_eqb, eq-eqb}
 use Rattle.foyer_memcached.specs.declared.command.Refusal.{Refusal}
 use Rattle.foyer_memcached.specs.declared.command.Refusal.TheVariants.{RepeatedFlag}

@@ -2,7 +2,7 @@
 use Rattle.std.specs.Prelude.{ℕ, ◌||◌, Bool, true, false, List, [], ◌∷◌, length, drop, slice_index, codes, nat_eq, nat_lt, Option, Some, None, Result, Ok, Err, ◌==◌, if◌then◌else◌}
 use Rattle.std.specs.Cmp.Lexicographic.{pointwise}
 use Rattle.foyer_memcached.specs.declared.command.Refusal.{Refusal}
-use Rattle.foyer_memcached.specs.declared.command.Refusal.TheVariants.{Unknown, BadFormat, BadFlag, RepeatedFlag, BadToken, OpaqueTooLong, BadModeLength, BadStoreMode, BadCountMode, BadInitial, BadStep, BadFlags}
+use Rattle.foyer_memcached.specs.declared.command.Refusal.TheVariants.{Unknown, BadFormat, BadExpiry, BadDelta, BadDelete, BadChunk, Untold, BadFlag, RepeatedFlag, BadToken, OpaqueTooLong, BadModeLength, BadStoreMode, BadCountMode, BadInitial, BadStep, BadFlags, BadKey}
 use Rattle.foyer_memcached.specs.declared.expiry.Expiry.{Expiry}
 use Rattle.foyer_memcached.specs.declared.expiry.Expiry.TheVariants.{After}
 use Rattle.foyer_memcached.specs.declared.meta.Options.{Options}
@@ -105,10 +105,30 @@ abbrev pub mg_at : List (List ℕ) → Result Asked Refusal
 mg_at [] = Err Unknown
 mg_at (key ∷ ws) = short_key key >>= λ k. options_at ws >>= λ o. get_of k o ws o.creates
 
--- md and ma tell one refusal for all flags
+-- md and ma tell one refusal for all flags but an O that is too long
+abbrev pub of_flags : Refusal → Refusal
+of_flags OpaqueTooLong = OpaqueTooLong
+of_flags Unknown = BadFlags
+of_flags BadFormat = BadFlags
+of_flags BadExpiry = BadFlags
+of_flags BadDelta = BadFlags
+of_flags BadDelete = BadFlags
+of_flags BadChunk = BadFlags
+of_flags Untold = BadFlags
+of_flags BadFlag = BadFlags
+of_flags RepeatedFlag = BadFlags
+of_flags BadToken = BadFlags
+of_flags BadModeLength = BadFlags
+of_flags BadStoreMode = BadFlags
+of_flags BadCountMode = BadFlags
+of_flags BadInitial = BadFlags
+of_flags BadStep = BadFlags
+of_flags BadFlags = BadFlags
+of_flags BadKey = BadFlags
+
 abbrev pub one_refusal : Result Options Refusal → Result Options Refusal
 one_refusal (Ok o) = Ok o
-one_refusal (Err r) = Err BadFlags
+one_refusal (Err r) = Err (of_flags r)
 
 -- md KEY FLAG..
 abbrev pub md_at : List (List ℕ) → Result Asked Refusal

@@ -173,8 +173,13 @@ count_expiry now o None = new_expiry now o.creates (Some 0)
 abbrev pub count_facts : ℕ → ℕ → Options → Option Kept → Facts
 count_facts now cas o found = record { flags = None; expiry = count_expiry now o found; cas = Some cas; len = None }
 
+-- a new item has the expiry of N, whatever T says
+abbrev pub counting : Flagged → Option Kept → Flagged
+counting f None = record { options = record f.options { expiry = None }; words = f.words }
+counting f (Some i) = f
+
 abbrev pub count_text : ℕ → ℕ → List ℕ → Flagged → Option Kept → Outcome → List ℕ
-count_text now cas key f found (Counted n) = unless f.options.is_quiet (value_line now key f (count_facts now cas f.options found) (decimal n))
+count_text now cas key f found (Counted n) = unless f.options.is_quiet (value_line now key (counting f found) (count_facts now cas f.options found) (decimal n))
 count_text now cas key f found NotNumber = outcome_text NotNumber
 count_text now cas key f found Stored = outcome_line now key f no_facts Stored
 count_text now cas key f found NotStored = outcome_line now key f no_facts NotStored

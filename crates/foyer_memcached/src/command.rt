@@ -10,7 +10,7 @@ ghost use Rattle.foyer_memcached.specs.Words.{line_at};
 ghost use Rattle.foyer_memcached.specs.Steps.{Reads};
 
 use crate::expiry::Expiry;
-use crate::line::{read_line, refusal_for};
+use crate::line::{read_get, read_line, refusal_for};
 use crate::meta::Meta;
 use crate::verb::Mode;
 use crate::words::{Words, split_line, strip_return};
@@ -277,7 +277,11 @@ fn read_command<'a>(bytes: &'a [u8], limits: Limits) -> Result<(Command<'a>, &'a
     ensures { Reads (λ x. (asked x.0, x.1.now)) result (command_at limits bytes.now) }
 {
     let (first, rest) = first_line(bytes, limits)?;
-    match read_line(strip_return(first)) {
+    let line = strip_return(first);
+    if let Some((has_cas, keys)) = read_get(line) {
+        return Ok((Command::Get { has_cas, keys }, rest));
+    }
+    match read_line(line) {
         Line::Whole(command) => Ok((command, rest)),
         Line::Data(how, meta) => value(how, meta, rest, limits),
     }

@@ -1,9 +1,10 @@
 // What a line says.
-ghost use Rattle.std.specs.Prelude.{◌≡◌, ◌∷◌, [], Result};
+ghost use Rattle.std.specs.Prelude.{◌≡◌, ◌∷◌, [], IfSome, Result, Some};
 ghost use Rattle.foyer_memcached.specs.declared.command.Refusal.{Refusal};
+ghost use Rattle.foyer_memcached.specs.declared.verb.Verb.TheVariants as verbs;
 ghost use Rattle.foyer_memcached.specs.Lines as Lines;
-ghost use Rattle.foyer_memcached.specs.Asked.{Asked, Storing, asked, said, storing};
-ghost use Rattle.foyer_memcached.specs.Lines.{any_long, begins_http, count_at, count_of, delete_at, delete_of, delete_quiet, flush_at, flush_of, get_at, get_touch_at, keys_at, key_of, level_of, quiet_at, said_at, said_by, storing_at, storing_of, tail_at, touch_at, touch_of, unknown_at, verbosity_at};
+ghost use Rattle.foyer_memcached.specs.Asked.{Asked, Get, Storing, Whole, asked, said, storing};
+ghost use Rattle.foyer_memcached.specs.Lines.{any_long, begins_http, count_at, count_of, delete_at, delete_of, delete_quiet, flush_at, flush_of, get_at, get_touch_at, keys_at, key_of, level_of, quiet_at, said_at, said_by, storing_at, storing_of, tail_at, touch_at, touch_of, unknown_at, verb_of, verbosity_at};
 ghost use Rattle.foyer_memcached.specs.Steps.{Reads};
 ghost use Rattle.foyer_memcached.specs.Words.{words};
 
@@ -74,13 +75,14 @@ fn has_long(args: &[u8]) -> bool
 }
 
 // One key or more.
+#[tactic(auto, unfolding(crate::specs::Lines::any_long))]
 fn keys(args: &[u8]) -> Result<Words<'_>, Refusal>
     ensures { Reads (λ k. words k.rest.now) result (keys_at (words args.now)) }
 {
-    if split_word(args).is_none() {
+    let Some((word, more)) = split_word(args) else {
         return Err(Refusal::Unknown);
-    }
-    if has_long(args) {
+    };
+    if word.len() > KEY_MOST || has_long(more) {
         return Err(Refusal::BadFormat);
     }
     Ok(Words::new(args))
@@ -469,6 +471,35 @@ fn unknown(word: &[u8], args: &[u8]) -> Line<'static>
     Line::Whole(Command::Bad {
         refusal: Refusal::Unknown,
     })
+}
+
+// Whether a word is `gets`. None if it isn't `get` either.
+#[tactic(auto, unfolding(crate::specs::Lines::verb_of))]
+fn get_verb(word: &[u8]) -> Option<bool>
+    ensures { IfSome result (λ has_cas. verb_of word.now ≡ Some (verbs.Get has_cas)) }
+{
+    if word == b"get".as_slice() {
+        Some(false)
+    } else if word == b"set".as_slice() {
+        None
+    } else if word == b"gets".as_slice() {
+        Some(true)
+    } else {
+        None
+    }
+}
+
+// Whether a `get` asks for versions, and its keys. None if the line says something else. It saves `get` the copies that `read_line` makes of a command.
+#[tactic(auto, unfolding(crate::specs::Lines::said_at))]
+pub(crate) fn read_get(line: &[u8]) -> Option<(bool, Words<'_>)>
+    ensures { IfSome result (λ x. said_at (words line.now) ≡ Whole (Get x.0 (words x.1.rest.now))) }
+{
+    let (word, args) = split_word(line)?;
+    let has_cas = get_verb(word)?;
+    match keys(args) {
+        Ok(keys) => Some((has_cas, keys)),
+        Err(_) => None,
+    }
 }
 
 // What a line says.

@@ -2,6 +2,7 @@
 ghost use Rattle.std.specs.Prelude.{◌≡◌};
 ghost use Rattle.foyer_memcached.specs.declared.command.Refusal.TheVariants.{BadFormat};
 ghost use Rattle.foyer_memcached.specs.Asked.{Bad, Whole, asked, said};
+ghost use Rattle.foyer_memcached.specs.Meta as Metas;
 ghost use Rattle.foyer_memcached.specs.Meta.{begins_with_b, data_by, data_said, guarded, is_up_by, len_said, ma_at, md_at, me_at, mg_at, mode_by, ms_at, one_refusal, options_at, or_none, or_zero, short_key};
 ghost use Rattle.foyer_memcached.specs.Steps.{Reads};
 ghost use Rattle.foyer_memcached.specs.Words.{words};
@@ -48,12 +49,37 @@ pub(crate) fn get(args: &[u8]) -> Result<Command<'_>, Refusal>
     }
 }
 
+fn of_flags(refusal: Refusal) -> Refusal
+    ensures { result ≡ Metas.of_flags refusal }
+{
+    match refusal {
+        Refusal::OpaqueTooLong => Refusal::OpaqueTooLong,
+        Refusal::Unknown
+        | Refusal::BadFormat
+        | Refusal::BadExpiry
+        | Refusal::BadDelta
+        | Refusal::BadDelete
+        | Refusal::BadChunk
+        | Refusal::Untold
+        | Refusal::BadFlag
+        | Refusal::RepeatedFlag
+        | Refusal::BadToken
+        | Refusal::BadModeLength
+        | Refusal::BadStoreMode
+        | Refusal::BadCountMode
+        | Refusal::BadInitial
+        | Refusal::BadStep
+        | Refusal::BadFlags
+        | Refusal::BadKey => Refusal::BadFlags,
+    }
+}
+
 fn some_options(args: &[u8]) -> Result<Options, Refusal>
     ensures { result ≡ one_refusal (options_at (words args.now)) }
 {
     match read_options(args) {
         Ok(options) => Ok(options),
-        Err(_) => Err(Refusal::BadFlags),
+        Err(refusal) => Err(of_flags(refusal)),
     }
 }
 

@@ -388,6 +388,22 @@ fn add_counted<A: Allocator>(
     add_value(now, key, meta, facts, buffer.format(number).as_bytes(), out)
 }
 
+// The flags as they tell of what was counted: a new item has the expiry of `N`, whatever `T` says.
+fn counting<'a>(meta: Meta<'a>, found: Option<Item<'_>>) -> Meta<'a>
+    ensures { flagged result ≡ Replies.counting (flagged meta.entry) (kept_of found.entry) }
+{
+    match found {
+        Some(_) => meta,
+        None => Meta {
+            options: Options {
+                expiry: None,
+                ..meta.options
+            },
+            ..meta
+        },
+    }
+}
+
 /// Writes what became of an `ma`; `cas` is the version of the new item, and `found` is what was seen under the key. Errors: `AllocError` if there is
 /// no memory for it. Then a part of it may be written.
 pub fn write_count<A: Allocator>(
@@ -404,7 +420,7 @@ pub fn write_count<A: Allocator>(
     match outcome {
         Outcome::Counted(number) => {
             let facts = facts_of_count(now, cas, meta.options, found);
-            add_counted(now, key, meta, facts, number, out)
+            add_counted(now, key, counting(meta, found), facts, number, out)
         }
         Outcome::NotNumber => outcome.write(false, out),
         other => add_outcome(now, key, meta, nothing(), other, out),

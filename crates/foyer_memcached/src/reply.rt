@@ -137,7 +137,8 @@ impl Outcome {
 impl Refusal {
     /// Writes why a line is no command. Errors: `AllocError` if there is no memory for it. Then nothing is written.
     pub fn write<A: Allocator>(self, out: &mut Vec<u8, A>) -> Result<(), AllocError>
-        ensures { OnOk result (out.new.items ≡ out.old.items ++ refusal_text self) }
+        ensures ok { OnOk result (out.new.items ≡ out.old.items ++ refusal_text self) }
+        ensures err { OnErr result (out.new.items ≡ out.old.items) }
     {
         match self {
             Refusal::Unknown => add(out, b"ERROR\r\n"),
@@ -168,7 +169,8 @@ impl Refusal {
 impl Notice {
     /// Writes the line. Errors: `AllocError` if there is no memory for it. Then nothing is written.
     pub fn write<A: Allocator>(self, out: &mut Vec<u8, A>) -> Result<(), AllocError>
-        ensures { OnOk result (out.new.items ≡ out.old.items ++ notice_text self) }
+        ensures ok { OnOk result (out.new.items ≡ out.old.items ++ notice_text self) }
+        ensures err { OnErr result (out.new.items ≡ out.old.items) }
     {
         match self {
             Notice::End => add(out, b"END\r\n"),

@@ -1,4 +1,4 @@
-use Rattle.std.proofs.Common.{◌∙◌, sym, ap}
+use Rattle.std.proofs.Common.{◌∙◌, sym}
 use Rattle.foyer_memcached.proofs.FlagTexts.{one_more, no_more}
 use Rattle.foyer_memcached.proofs.meta_reply.add_flags.Goals as goal
 
