@@ -7,9 +7,10 @@ ghost use Rattle.std.specs.Prelude.{◌≡◌, ◌^◌};
 
 use foyer_storage::error::Result;
 use foyer_storage::{
-    Blanks, BlockEngineConfig, BuiltInCondition, Clock, DeviceBuilder, DirectoryLock,
-    DirectoryShape, Engine, EstimatedSize, FsDevice, FsDeviceBuilder, Kinds, Load, NoProperties,
-    PsyncIoEngineConfig, StdHashBuilder, StorageFilter, Store, StoreBuilder, SystemClock, Throttle,
+    Blanks, BlockEngineConfig, BuiltInCondition, Clock, Device, DeviceBuilder, DirectoryLock,
+    DirectoryShape, Engine, EstimatedSize, FsDevice, FsDeviceBuilder, IoEngineConfig, Kinds, Load,
+    NoProperties, PsyncIoEngineConfig, StdHashBuilder, StorageFilter, Store, StoreBuilder,
+    SystemClock, Throttle,
 };
 use std::alloc::Global;
 use std::fs::File;
@@ -121,7 +122,50 @@ where
     Ok(())
 }
 
-// Opens the cache, which no other program may have, answers each line of the input, and closes the cache, which writes what is queued.
+// Builds the cache, answers each line of the input, and closes the cache, which writes what is queued. It doesn't ask which device and I/O
+// engines the cache is over, so that its proof needn't look into them.
+fn build_and_answer<L, R, D, I>(
+    rt: R,
+    alloc: Global,
+    blanks: Blanks,
+    builder: StoreBuilder<Hashes, BlockEngineConfig<D>, I>,
+    clock: SystemClock<R>,
+    source: &str,
+) -> Result<()>
+where
+    L: Kinds + Send + Sync + 'static,
+    R: Threads
+        + Wait
+        + std::rt::Clock
+        + Input
+        + Print
+        + Files<File = File>
+        + AllocGlobal
+        + Copy
+        + Send
+        + 'static,
+    D: Device,
+    D::Partition: Drop + Send + 'static,
+    I: IoEngineConfig<R> + Drop,
+    I::Engine: Send + 'static,
+    requires { AreOf L.name_of L.all blanks × (L.all ≡ 2 ^ 32) }
+{
+    let (shelf, mut session, workers) = builder.build::<
+        R,
+        SystemClock<R>,
+        L,
+        String,
+        Vec<u8>,
+        NoProperties,
+    >(rt, alloc, blanks, clock, 0)?;
+    let answered = answer_lines(&rt, alloc, &shelf, &mut session, &clock, source);
+    let closed = shelf.close(&rt, &mut session);
+    let _ = workers.join(&rt, session.into_steps());
+    answered?;
+    closed
+}
+
+// Opens the directory of the cache, which no other program may have, and answers each line of the input.
 fn open_and_answer<L, R>(
     rt: R,
     alloc: Global,
@@ -157,19 +201,7 @@ where
     let builder = StoreBuilder::new("shelf", hashes, 16)
         .with_engine_config(config(alloc, device)?)
         .with_io_engine_config(PsyncIoEngineConfig::new());
-    let (shelf, mut session, workers) = builder.build::<
-        R,
-        SystemClock<R>,
-        L,
-        String,
-        Vec<u8>,
-        NoProperties,
-    >(rt, alloc, blanks, clock, 0)?;
-    let answered = answer_lines(&rt, alloc, &shelf, &mut session, &clock, source);
-    let closed = shelf.close(&rt, &mut session);
-    let _ = workers.join(&rt, session.into_steps());
-    answered?;
-    closed
+    build_and_answer::<L, R, _, _>(rt, alloc, blanks, builder, clock, source)
 }
 
 // Does what the words of the command line say, and gives the exit status: 2 if they aren't a program and two directories, 1 if it failed.

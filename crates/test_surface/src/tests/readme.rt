@@ -4,9 +4,10 @@ ghost use Rattle.std.specs.Prelude.{◌≡◌, ◌^◌};
 
 use foyer_storage::error::Result;
 use foyer_storage::{
-    Blanks, BlockEngineConfig, Core, DeviceBuilder, EntrySerializer, Env, IdentityHashBuilder,
-    Kinds, Load, MemoryDeviceBuilder, MemoryDisk, MemoryIoEngine, Moment, NoProperties, Piece,
-    PieceRef, RecoverMode, Reply, Settings, SharedMemoryIoEngineConfig, Step, StoreBuilder,
+    Blanks, BlockEngineConfig, Core, Device, DeviceBuilder, EntrySerializer, Env,
+    IdentityHashBuilder, IoEngineConfig, Kinds, Load, MemoryDeviceBuilder, MemoryDisk,
+    MemoryIoEngine, Moment, NoProperties, Piece, PieceRef, RecoverMode, Reply, Settings,
+    SharedMemoryIoEngineConfig, Step, StoreBuilder,
 };
 use std::alloc::Global;
 use std::marker::Brand;
@@ -14,6 +15,35 @@ use std::rt::Files;
 use std::sync::Wait;
 use std::test::Fail;
 use std::thread::Threads;
+
+/// Puts a value into a store over any device, waits until it is written, and loads it.
+fn put_and_load<L, R, D, I>(
+    rt: R,
+    alloc: Global,
+    blanks: Blanks,
+    builder: StoreBuilder<IdentityHashBuilder, BlockEngineConfig<D>, I>,
+) -> Result<bool>
+where
+    L: Kinds + Send + Sync + 'static,
+    R: Threads + Wait + Files + Copy + Send + 'static,
+    D: Device,
+    D::Partition: Drop + Send + 'static,
+    I: IoEngineConfig<R> + Drop,
+    I::Engine: Send + 'static,
+    requires { AreOf L.name_of L.all blanks × (L.all ≡ 2 ^ 32) }
+{
+    let moment = Moment(0);
+    let (store, mut session, workers) = builder.build::<R, Moment, L, u64, String, NoProperties>(
+        rt, alloc, blanks, moment, 0,
+    )?;
+    let value = String::from_str(alloc, "a")?;
+    let _ = store.put(&rt, alloc, &mut session, 1, value, NoProperties, 0)?;
+    store.wait(&rt, &mut session)?;
+    let is_there = matches!(store.load(&rt, &mut session, &1, 0)?, Load::Entry { .. });
+    store.close(&rt, &mut session)?;
+    let _ = workers.join(&rt, session.into_steps());
+    Ok(is_there)
+}
 
 /// A store over four blocks in memory, with its workers, reads back what was put.
 fn is_read_back<L, R>(rt: R, alloc: Global, blanks: Blanks) -> Result<bool>
@@ -28,17 +58,7 @@ where
     let builder = StoreBuilder::new("example", IdentityHashBuilder, 4)
         .with_engine_config(BlockEngineConfig::new(device).with_block_size(16384))
         .with_io_engine_config(SharedMemoryIoEngineConfig::new(alloc, memory)?);
-    let moment = Moment(0);
-    let (store, mut session, workers) = builder.build::<R, Moment, L, u64, String, NoProperties>(
-        rt, alloc, blanks, moment, 0,
-    )?;
-    let value = String::from_str(alloc, "a")?;
-    let _ = store.put(&rt, alloc, &mut session, 1, value, NoProperties, 0)?;
-    store.wait(&rt, &mut session)?;
-    let is_there = matches!(store.load(&rt, &mut session, &1, 0)?, Load::Entry { .. });
-    store.close(&rt, &mut session)?;
-    let _ = workers.join(&rt, session.into_steps());
-    Ok(is_there)
+    put_and_load::<L, R, _, _>(rt, alloc, blanks, builder)
 }
 
 /// Asks a core by itself for the sequence of a put. The core gives one reply to each step, and touches a disk only when it is opened.
