@@ -15,17 +15,12 @@ use foyer_io_engine::io::engine::IoEngineConfig;
 use foyer_io_gate::gate::Gate;
 use foyer_policy_filter::StorageFilterCondition;
 use foyer_program::store::builder::StoreBuilder;
-use foyer_program::store::config::{
-    BlockEngineConfig, Engine, EngineBuildContext, EngineConfig, PickerSource,
-};
+use foyer_program::store::config::{BlockEngineConfig, Engine, PickerSource};
 use foyer_program::store::cores::kinds::CoreBlanks;
 use foyer_program::store::cores::sessions::CallerSession;
 use foyer_program::store::running::JoinWorkers;
 use foyer_program::store::session::StoreSession;
-use foyer_program::store::threads::hand::Hand;
-use foyer_program::store::threads::recover::Recoverer;
-use foyer_program::store::threads::workers::{Worker, Workers};
-use foyer_program::store::whole::WholeSession;
+use foyer_program::store::threads::workers::Workers;
 use foyer_storage_cores_run::run::run_over_cores;
 use foyer_storage_cores_run::task::StoreTask;
 use foyer_testing::said::Said;
@@ -155,35 +150,26 @@ fn refusal(alloc: Global, error: Error) -> Said {
     said
 }
 
-/// Builds a store and asks it, or notes why it isn't built. Any config of an engine will do, so that the parts of none are looked
-/// into.
-pub(crate) fn answers_of_built<L, R, M, I>(
-    rt: R,
+/// A store that was built, with its session and its workers, or why it wasn't.
+type AnyBuilt<L, N> = Result<(Texts<N>, StoreSession<L>, Workers<L>)>;
+
+// Asks a store that was built, or notes why it wasn't. Whoever builds it knows its config, and this function its engine, so that no proof
+// looks into both.
+fn answers_of_built<L, R, N>(
+    rt: &R,
     alloc: Global,
-    blanks: Blanks,
-    builder: StoreBuilder<LowBits, M, I>,
+    built: AnyBuilt<L, N>,
+    is_noop: bool,
     asked: &Asked,
 ) -> Said
 where
     L: Kinds + Send + Sync + 'static,
-    R: Threads + Wait + Copy + Send + Sync + 'static,
-    M: EngineConfig<R, EngineBuildContext<I, Dial>, WholeSession<L>, u128, String, NoProperties>,
-    M::Engine: Engine<StoreSession<L>, u128, String, NoProperties> + Send + Sync,
-    M::Flusher: Worker<Hand<L>> + Send + 'static,
-    M::Reclaimer: Worker<Hand<L>> + Send + 'static,
-    M::Recoverer: Recoverer<M::Listed> + Send + 'static,
-    M::Listed: Send + 'static,
-    I: Drop,
-    requires { M.fits blanks }
+    R: Threads + Wait + Sync,
+    N: Engine<StoreSession<L>, u128, String, NoProperties> + Send + Sync,
 {
-    let is_noop = builder.is_noop::<R, Dial, L, u128, String, NoProperties>();
-    let (clock, seed) = (asked.dial, asked.over.seed);
-    let built = builder.build::<R, Dial, L, u128, String, NoProperties>(
-        rt, alloc, blanks, clock, seed,
-    );
     match built {
         Ok((store, session, workers)) => {
-            let said = answers_of_store(&rt, alloc, &store, session, workers, asked);
+            let said = answers_of_store(rt, alloc, &store, session, workers, asked);
             with_noop(said, is_noop)
         }
         Err(error) => refusal(alloc, error),
@@ -200,7 +186,12 @@ where
     let builder = StoreBuilder::new("nothing", LowBits, asked.over.shards).with_compression(
         asked.over.compression,
     );
-    answers_of_built::<L, R, _, _>(rt, alloc, blanks, builder, asked)
+    let is_noop = builder.is_noop::<R, Dial, L, u128, String, NoProperties>();
+    let (clock, seed) = (asked.dial, asked.over.seed);
+    let built = builder.build::<R, Dial, L, u128, String, NoProperties>(
+        rt, alloc, blanks, clock, seed,
+    );
+    answers_of_built(&rt, alloc, built, is_noop, asked)
 }
 
 /// The answers of a store whose engine has any device, I/O engines, pickers, conditions and gate. What is known of the whole engine is
@@ -225,7 +216,12 @@ where
     G: Gate + Send + Sync + 'static,
     requires { AreOf L.name_of L.all blanks × (L.all ≡ 2 ^ 32) }
 {
-    answers_of_built::<L, R, _, _>(rt, alloc, blanks, builder, asked)
+    let is_noop = builder.is_noop::<R, Dial, L, u128, String, NoProperties>();
+    let (clock, seed) = (asked.dial, asked.over.seed);
+    let built = builder.build::<R, Dial, L, u128, String, NoProperties>(
+        rt, alloc, blanks, clock, seed,
+    );
+    answers_of_built(&rt, alloc, built, is_noop, asked)
 }
 
 // What a store of several cores is asked.
